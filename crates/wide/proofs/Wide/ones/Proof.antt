@@ -1,0 +1,46 @@
+-- `wide::Wide::ones` meets its contract: no half is shifted by 64 or more. Assumes nothing.
+use mathlib.Core.Path.{_≡_, sym, ap, _∙_}
+use Prim.Native.Nat.{ℕ, _+_, _-_, _*_, _%_, _<_, _≤_, _^_, min}
+use native.Mathlib.Nat.{one-mul}
+use native.Mathlib.Omega.{arith}
+use borrow.Author.Needs.{needs}
+use lib.Pow.{pow-pos, ones-split, shl-exact}
+use Rattle.wide.proofs.Wide.ones.Statement.{statement}
+use Rattle.wide.proofs.Wide.ones.Tie as tie
+
+-- a one that is shifted by less than the width
+shifted : (k : ℕ) → k < 64 → 1 * 2 ^ k % 2 ^ 64 ≡ 2 ^ k
+shifted k h = shl-exact 1 k 64 (omega arith) (omega arith) ∙ one-mul (2 ^ k)
+
+shl-t5 : tie.Need-shl-t5
+shl-t5 c = search needs
+
+sub-t6 : tie.Need-sub-t6
+sub-t6 c = rw (shifted (c .before .args .k) (c .if1 .taken)) (pow-pos (c .before .args .k))
+
+returns : tie.Need-returns
+returns c =
+    let k = c .before .args .k in
+    let m : min k 128 ≡ k = omega arith in
+    rw (shifted k (c .if1 .taken), m) (omega arith)
+
+cast-t8 : tie.Need-cast-t8
+cast-t8 c = search needs
+
+shl-t9 : tie.Need-shl-t9
+shl-t9 c = search needs
+
+sub-t10 : tie.Need-sub-t10
+sub-t10 c = let k = c .before .before .args .k in rw (shifted (k - 64) (omega arith)) (pow-pos (k - 64))
+
+returns-2 : tie.Need-returns-2
+returns-2 c =
+    let k = c .before .before .args .k in
+    let m : min k 128 ≡ k - 64 + 64 = omega arith in
+    rw (shifted (k - 64) (omega arith), m) (sym (ones-split (k - 64) 64))
+
+returns-3 : tie.Need-returns-3
+returns-3 c = let m : min (c .before .before .args .k) 128 ≡ 128 = omega arith in rw m
+
+pub ones-spec : {M : Type 1} → statement M
+ones-spec = tie.close (tie.spec shl-t5 sub-t6 returns cast-t8 shl-t9 sub-t10 returns-2 returns-3)
