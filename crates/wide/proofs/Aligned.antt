@@ -1,10 +1,10 @@
 -- Multiples of a power of two: the addresses whose k lowest bits are zero. Two of them that differ are a whole power apart (`aligned-gap`). Assumes nothing.
 use mathlib.Core.Path.{_≡_, sym, ap, _∙_}
 use Prim.Native.Nat.{ℕ, suc, _+_, _-_, _*_, _/_, _%_, _^_, _≤_, _<_}
-use native.Mathlib.Nat.{zero-mod, mod-self, mod-one, add-mod, add-mod-right, add-zero, suc-mul, mul-mod-left, mul-le-mul-right, lt-of-mul-lt-mul-right, div-add-mod', two-pow-succ}
+use native.Mathlib.Nat.{zero-mod, mod-eq-of-lt, mod-self, mod-one, add-mod, add-mod-right, add-zero, suc-mul, mul-mod-left, mul-le-mul-right, lt-of-mul-lt-mul-right, div-add-mod', two-pow-succ}
 use native.Mathlib.Decide.{ℕ-discrete}
 use native.Mathlib.Omega.{arith}
-use lib.Pow.{mod-mod-pow}
+use lib.Pow.{mod-mod-pow, pow-pos, pow-lt}
 
 -- a is a multiple of 2 ^ k
 abbrev pub Aligned : ℕ → ℕ → Type 0
@@ -46,6 +46,13 @@ aligned-add k a c h l = add-mod a c (2 ^ k) ∙ rw (h, l, zero-mod)
 
 pub aligned-next : (k a : ℕ) → Aligned k a → Aligned k (a + 2 ^ k)
 aligned-next k a h = add-mod-right a (2 ^ k) ∙ h
+
+pub aligned-back : (k a : ℕ) → Aligned k (a + 2 ^ k) → Aligned k a
+aligned-back k a h = sym (add-mod-right a (2 ^ k)) ∙ h
+
+-- a power of two is no multiple of the next
+pub aligned-not : (k : ℕ) → ¬ Aligned (suc k) (2 ^ k)
+aligned-not k h = omega (arith, pow-pos k, sym (mod-eq-of-lt {n = 2 ^ k} {m = 2 ^ suc k} (pow-lt (omega arith))) ∙ h)
 
 -- a multiple of 2 ^ k that is none of 2 ^ (k + 1) is half way between two of those
 pub aligned-odd : (k a : ℕ) → Aligned k a → ¬ Aligned (suc k) a → Aligned (suc k) (a + 2 ^ k)

@@ -5,7 +5,7 @@ use Prim.Native.Nat.{ℕ, zero, suc, _+_, _-_, _*_, _^_, _≤_, _<_}
 use native.Mathlib.Nat.{le-refl, suc-add, mul-le-mul-right}
 use native.Mathlib.Decide.{decLe}
 use native.Mathlib.Omega.{arith}
-use borrow.Author.Tests.{le-leb, lt-leb}
+use borrow.Author.Tests.{leb-true, le-leb, lt-leb}
 use lib.Arith.{digits-lt}
 use lib.Count.{leadingZeros, leading-top}
 use lib.Dec.{leb}
@@ -64,6 +64,14 @@ pub log2-is : (w n k : ℕ) → k ≤ w → 2 ^ k ≤ n → n < 2 ^ suc k → lo
 unfolding log2
 log2-is w n k l low high =
     greatest-is (λ j. leb (2 ^ j) n) w k l (λ _. le-leb (2 ^ k) n low) (λ j a b. lt-leb (2 ^ j) n (omega (arith, pow-mono {i = suc k} {j = j} a)))
+
+pub log2-le : (w n : ℕ) → 0 < n → 2 ^ log2 w n ≤ n
+unfolding log2
+log2-le w n pos = leb-true (2 ^ log2 w n) n (greatest-passes (λ j. leb (2 ^ j) n) w (le-leb 1 n pos))
+
+pub log2-max : (w n k : ℕ) → k ≤ w → 2 ^ k ≤ n → k ≤ log2 w n
+unfolding log2
+log2-max w n k l h = greatest-max (λ j. leb (2 ^ j) n) w k l (le-leb (2 ^ k) n h)
 
 pub log2-zero : (w : ℕ) → log2 w 0 ≡ 0
 unfolding log2

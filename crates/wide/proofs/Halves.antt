@@ -2,13 +2,15 @@
 -- The base is a variable, since `omega` takes no numeral of 128 bits.
 use mathlib.Core.Path.{_≡_, sym, ap, _∙_}
 use mathlib.Core.Bool.{false}
-use Prim.Native.Nat.{ℕ, _+_, _-_, _*_, _≤_, _<_, min}
+use Prim.Native.Nat.{ℕ, _+_, _-_, _*_, _^_, _≤_, _<_, min}
 use native.Mathlib.Nat.{add-mul, one-mul, zero-mul, mul-le-mul-right}
 use native.Mathlib.Decide.{decLt, ℕ-discrete}
 use native.Mathlib.Omega.{arith}
 use borrow.Author.Tests.{lt-ltb, le-ltb, eq-eqb, ne-eqb}
 use lib.Arith.{digits-lt}
 use lib.Dec.{ltb, eqb}
+use Rattle.wide.specs.declared.Wide.{Wide}
+use Rattle.wide.specs.Value.{value}
 
 module _ (b ah al bh bl : ℕ) where
   -- the number with the larger upper digit is the larger
@@ -72,3 +74,7 @@ high-other b ah al bh bl l k n = ne-eqb (ah * b + al) (bh * b + bl) (λ e. elim 
 -- a number whose upper digit is 0 is its lower one
 pub high-none : (b h l : ℕ) → h ≤ 0 → h * b + l ≡ l
 high-none b h l z = let e : h ≡ 0 = omega arith in rw e (omega (arith, zero-mul b))
+
+-- a wide number has 128 bits
+pub value-lt : (w : Wide) → w .hi < 2 ^ 64 → w .lo < 2 ^ 64 → value w < 2 ^ 128
+value-lt w h l = digits-lt h l

@@ -4,11 +4,10 @@ use mathlib.Core.Bool.{Bool, false}
 use Prim.Native.Nat.{ℕ, _+_, _*_, _%_, _<_, _^_}
 use native.Mathlib.Omega.{arith}
 use borrow.Author.Needs.{needs}
-use lib.Arith.{digits-lt}
 use lib.Dec.{eqb}
 use Rattle.wide.specs.Value.{value}
 use Rattle.wide.proofs.Trailing.{zeros-within, zeros-beyond}
-use Rattle.wide.proofs.Halves.{low-same, high-other}
+use Rattle.wide.proofs.Halves.{low-same, high-other, value-lt}
 use Rattle.wide.proofs.Wide.ends_in_zeros.Statement.{statement}
 use Rattle.wide.proofs.Wide.ends_in_zeros.Tie as tie
 
@@ -26,8 +25,7 @@ beyond c =
     let w = c .before .before .args .self in
     let h : w .hi < 2 ^ 64 = omega arith in
     let l : w .lo < 2 ^ 64 = omega arith in
-    let small : value w < 2 ^ 128 = digits-lt h l in
-    zeros-beyond 128 (value w) (c .before .before .args .k) small (rw (← c .before .trailing-zeros .ensures) (c .if1 .left))
+    zeros-beyond 128 (value w) (c .before .before .args .k) (value-lt w h l) (rw (← c .before .trailing-zeros .ensures) (c .if1 .left))
 
 returns-2 : tie.Need-returns-2
 returns-2 c =

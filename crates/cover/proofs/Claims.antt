@@ -1,0 +1,74 @@
+-- What is claimed of blocks and ranges (01, "Blocks and ranges"; demand 3), over the width W. Assumes nothing.
+use mathlib.Core.Path.{_≡_, refl}
+use mathlib.Core.Logic.{_⊎_}
+use mathlib.Core.List.{List, [], _∷_}
+use Prim.Native.Nat.{ℕ, suc, _+_, _-_, _*_, _^_, _≤_, _<_}
+use native.Mathlib.Omega.{arith}
+use lib.Count.{trailingZeros}
+use lib.ListN as L
+use Rattle.wide.proofs.Trailing.{aligned-trailing}
+use Rattle.cover.specs.Blocks.{Block, IsBlock, Fewest, Range, total, largest, rangeBlocks}
+use Rattle.cover.proofs.Interval.{end, Nested, laminar}
+use Rattle.cover.proofs.Tight.{Tight, tight-fewest, fewest-unique}
+use Rattle.cover.proofs.Range.{largest-le, largest-fits, range-fewest}
+use Rattle.cover.proofs.RangeCount.{range-total, range-count, range-count-reached}
+
+-- Two blocks are apart, or one is in the other.
+pub nested-or-apart : {W : ℕ} {b c : Block} → IsBlock W b → IsBlock W c
+    → (end W b ≤ c .address) ⊎ (end W c ≤ b .address) ⊎ Nested W b c ⊎ Nested W c b
+nested-or-apart = laminar
+
+-- The greedy list of any set of addresses is its fewest, and a set has one list of the fewest.
+pub greedy-fewest : {W : ℕ} {S : ℕ → Type 0} {bs : List Block} → Tight W S 0 bs → Fewest W S bs
+greedy-fewest = tight-fewest
+
+pub one-fewest : {W : ℕ} {S : ℕ → Type 0} {bs cs : List Block} → Fewest W S bs → Fewest W S cs → bs ≡ cs
+one-fewest = fewest-unique
+
+-- Demand 3: the blocks of a range rise, cover each address from first to last once and no other, and every other such list is longer.
+pub range-is-fewest : (W first last : ℕ) → last < 2 ^ W → Fewest W (Range first last) (rangeBlocks W first last)
+range-is-fewest = range-fewest
+
+-- The sizes of the blocks add up to last minus first plus one.
+pub sizes-add-up : (W first last : ℕ) → first ≤ last → total W (rangeBlocks W first last) ≡ last - first + 1
+sizes-add-up W first last h = omega (arith, range-total W first last)
+
+-- A block may be as large as its starting address has trailing zero bits, and no larger.
+pub at-most-trailing : (W a last : ℕ) → a ≤ last → largest W a last ≤ trailingZeros W a
+at-most-trailing W a last h = aligned-trailing W a (largest W a last) (largest-le W a last) .0 (largest-fits W a last h .aligned)
+
+-- At most 2 W - 2 blocks, and that many are reached: 62 for IPv4, 254 for IPv6.
+pub at-most : (W first last : ℕ) → 2 ≤ W → last < 2 ^ W → L.length (rangeBlocks W first last) ≤ 2 * W - 2
+at-most W first last wide top = omega (arith, range-count W first last top)
+
+pub at-most-reached : (W : ℕ) → 2 ≤ W → L.length (rangeBlocks W 1 (2 ^ W - 2)) ≡ 2 * W - 2
+at-most-reached = range-count-reached
+
+pub at-most-4 : (first last : ℕ) → last < 2 ^ 32 → L.length (rangeBlocks 32 first last) ≤ 62
+at-most-4 first last = at-most 32 first last (omega arith)
+
+pub at-most-6 : (first last : ℕ) → last < 2 ^ 128 → L.length (rangeBlocks 128 first last) ≤ 254
+at-most-6 first last = at-most 128 first last (omega arith)
+
+-- ---- computed: the definition runs
+
+-- 0.0.0.0 to 255.255.255.255, and all of IPv6, are one block of length 0
+all-4 : rangeBlocks 32 0 (2 ^ 32 - 1) ≡ record { address = 0; length = 0 } ∷ []
+unfolding rangeBlocks
+all-4 = refl
+
+all-6 : rangeBlocks 128 0 (2 ^ 128 - 1) ≡ record { address = 0; length = 0 } ∷ []
+unfolding rangeBlocks
+all-6 = refl
+
+-- the last address alone: the walk does not wrap
+last-6 : rangeBlocks 128 (2 ^ 128 - 1) (2 ^ 128 - 1) ≡ record { address = 2 ^ 128 - 1; length = 128 } ∷ []
+unfolding rangeBlocks
+last-6 = refl
+
+-- 10.0.0.1 to 10.0.0.6, the whole case of 01
+whole-case : rangeBlocks 32 0x0a000001 0x0a000006
+    ≡ record { address = 0x0a000001; length = 32 } ∷ record { address = 0x0a000002; length = 31 }
+    ∷ record { address = 0x0a000004; length = 31 } ∷ record { address = 0x0a000006; length = 32 } ∷ []
+unfolding rangeBlocks
+whole-case = refl

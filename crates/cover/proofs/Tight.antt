@@ -1,0 +1,243 @@
+-- The fewest blocks of any set are those taken greedily from below, each as large as the set allows. Assumes nothing.
+use mathlib.Core.Path.{_≡_, refl, sym, ap, ap₂, subst}
+use mathlib.Core.Logic.{_⊎_, inl, inr, _↔_}
+use mathlib.Core.List.{List, [], _∷_}
+use Prim.Native.Nat.{ℕ, zero, suc, _-_, _^_, _≤_, _<_}
+use native.Mathlib.Nat.{zero-lt-suc}
+use native.Mathlib.Decide.{decLe, decLt}
+use native.Mathlib.Omega.{arith}
+use lib.ListN as L
+use lib.Pow.{pow-lt}
+use Rattle.cover.specs.Blocks.{Block, IsBlock, Covers, CoversAt, CoveredBy, AllBlocks, Rising, Fewest, size}
+use Rattle.cover.proofs.Interval.{end, block-path, size-pos, end-le, covers→within, within→covers, covers-first, covers-last, inner-end, outer-start}
+
+-- every address of the block is in S
+abbrev pub Inside : ℕ → (ℕ → Type 0) → Block → Type 0
+Inside W S b = (x : ℕ) → Covers W b x → S x
+
+-- b starts at the lowest address of S from a on, and is the largest block of S that starts there
+pub record Next (W : ℕ) (S : ℕ → Type 0) (a : ℕ) (b : Block) : Type 0 where
+  pub block : IsBlock W b
+  pub above : a ≤ b .address
+  pub lowest : (x : ℕ) → a ≤ x → x < b .address → ¬ S x
+  pub inside : Inside W S b
+  pub largest : (c : Block) → IsBlock W c → c .address ≡ b .address → Inside W S c → b .length ≤ c .length
+
+-- the list is next block after next block of S, from a on, until nothing of S is left over
+pub data Tight (W : ℕ) (S : ℕ → Type 0) : ℕ → List Block → Type 0 where
+  done : {a : ℕ} → ((x : ℕ) → a ≤ x → x < 2 ^ W → ¬ S x) → Tight W S a []
+  next : {a : ℕ} {b : Block} {bs : List Block} → Next W S a b → Tight W S (end W b) bs → Tight W S a (b ∷ bs)
+
+-- ---- lists of blocks
+
+pub covered-below : (W : ℕ) (bs : List Block) (i x : ℕ) → CoversAt W bs i x → x < 2 ^ W
+covered-below W [] i x c = absurd c
+covered-below W (b ∷ bs) zero x c = c .below
+covered-below W (b ∷ bs) (suc i) x c = covered-below W bs i x c
+
+-- what lies behind the first block is covered by the others
+pub uncover : {W : ℕ} (c : Block) (cs : List Block) (x : ℕ) → IsBlock W c → end W c ≤ x → CoveredBy W (c ∷ cs) x → CoveredBy W cs x
+uncover c cs x C l (zero, h) = let w = covers→within C h in absurd (omega arith)
+uncover c cs x C l (suc i, h) = (i, h)
+
+pub rising-tail : (c : Block) (cs : List Block) → Rising (c ∷ cs) → Rising cs
+rising-tail c [] r = tt
+rising-tail c (d ∷ cs) r = r .1
+
+-- a rising list covers nothing below its first address
+pub rising-above : (W : ℕ) (c : Block) (cs : List Block) → AllBlocks W (c ∷ cs) → Rising (c ∷ cs) → (i x : ℕ) → CoversAt W (c ∷ cs) i x → c .address ≤ x
+rising-above W c cs B r zero x h = covers→within (B .0) h .low
+rising-above W c [] B r (suc i) x h = absurd h
+rising-above W c (d ∷ cs) B r (suc i) x h = omega (arith, r .0, rising-above W d cs (B .1) (r .1) i x h)
+
+-- ---- a tight list is a rising list of blocks, and covers each address of S from a on once
+
+module _ {W : ℕ} {S : ℕ → Type 0} where
+  pub tight-blocks : {a : ℕ} {bs : List Block} → Tight W S a bs → AllBlocks W bs
+  tight-blocks (done e) = tt
+  tight-blocks (next n t) = (n .block, tight-blocks t)
+
+  pub tight-rising : {a : ℕ} {bs : List Block} → Tight W S a bs → Rising bs
+  tight-rising (done e) = tt
+  tight-rising (next n (done e)) = tt
+  tight-rising (next n (next m t)) = (omega (arith, m .above), tight-rising (next m t))
+
+  pub tight-above : {a : ℕ} {bs : List Block} → Tight W S a bs → (i x : ℕ) → CoversAt W bs i x → a ≤ x
+  tight-above (done e) i x c = absurd c
+  tight-above (next n t) zero x c = omega (arith, n .above, covers→within (n .block) c .low)
+  tight-above (next n t) (suc i) x c = omega (arith, n .above, tight-above t i x c)
+
+  pub tight-inside : {a : ℕ} {bs : List Block} → Tight W S a bs → (i x : ℕ) → CoversAt W bs i x → S x
+  tight-inside (done e) i x c = absurd c
+  tight-inside (next n t) zero x c = n .inside x c
+  tight-inside (next n t) (suc i) x c = tight-inside t i x c
+
+  pub tight-covers : {a : ℕ} {bs : List Block} → Tight W S a bs → (x : ℕ) → x < 2 ^ W → S x → a ≤ x → CoveredBy W bs x
+  tight-covers (done e) x h s l = absurd (e x l h s)
+  tight-covers (next {b = b} {bs = bs} n t) x h s l =
+      let rest : end W b ≤ x → CoveredBy W bs x = tight-covers t x h s in
+      elim (decLt x (b .address)) [
+        | yes k ↦ absurd (n .lowest x l k s)
+        | no m ↦ elim (decLt x (end W b)) [
+          | yes k ↦ (zero, within→covers (n .block) (record { low = omega arith; high = k }))
+          | no k ↦ let r = rest (omega arith) in (suc (r .0), r .1)
+        ]
+      ]
+
+  pub tight-once : {a : ℕ} {bs : List Block} → Tight W S a bs → (x i j : ℕ) → CoversAt W bs i x → CoversAt W bs j x → i ≡ j
+  tight-once (done e) x i j c d = absurd c
+  tight-once (next n t) x zero zero c d = refl
+  tight-once (next n t) x zero (suc j) c d = omega (arith, covers→within (n .block) c .high, tight-above t j x d)
+  tight-once (next n t) x (suc i) zero c d = omega (arith, covers→within (n .block) d .high, tight-above t i x c)
+  tight-once (next n t) x (suc i) (suc j) c d = ap suc (tight-once t x i j c d)
+
+  -- where S has nothing from a up to c, a list that is tight from c on is tight from a on
+  pub tight-lower : {a c : ℕ} {bs : List Block} → a ≤ c → ((x : ℕ) → a ≤ x → x < c → ¬ S x) → Tight W S c bs → Tight W S a bs
+  tight-lower {a} {c} l gap (done e) = done (λ x k h. elim (decLt x c) [ yes m ↦ gap x k m | no n ↦ e x (omega arith) h ])
+  tight-lower {a} {c} l gap (next n t) = next {a = a} (record {
+    block = n .block;
+    above = omega (arith, n .above);
+    lowest = λ x k h. elim (decLt x c) [ yes m ↦ gap x k m | no o ↦ n .lowest x (omega arith) h ];
+    inside = n .inside;
+    largest = n .largest;
+  }) t
+
+-- ---- every rival with the same cover is longer
+
+-- no block of the list has addresses on both sides of a
+abbrev pub Clear : ℕ → ℕ → List Block → Type 0
+Clear W a [] = Unit {0}
+Clear W a (c ∷ cs) = ((end W c ≤ a) ⊎ (a ≤ c .address)) × Clear W a cs
+
+clear-zero : (W : ℕ) (cs : List Block) → Clear W 0 cs
+clear-zero W [] = tt
+clear-zero W (c ∷ cs) = (inr (omega arith), clear-zero W cs)
+
+-- A rival of the tight list from a on: rising blocks of S, none of them on both sides of a, that cover all of S from a on. It may cover some of S below a too, and may cover an address twice.
+record Rival (W : ℕ) (S : ℕ → Type 0) (a : ℕ) (cs : List Block) : Type 0 where
+  blocks : AllBlocks W cs
+  rising : Rising cs
+  clear : Clear W a cs
+  inside : (i x : ℕ) → CoversAt W cs i x → S x
+  covers : (x : ℕ) → x < 2 ^ W → S x → a ≤ x → CoveredBy W cs x
+
+module _ {W : ℕ} {S : ℕ → Type 0} where
+  -- a block of S that starts in the next block b ends in it
+  next-holds : {a : ℕ} {b c : Block} → Next W S a b → IsBlock W c → Inside W S c → b .address ≤ c .address → c .address < end W b → end W c ≤ end W b
+  next-holds {b = b} {c = c} n C s low high = elim (decLe (b .length) (c .length)) [
+    | yes l ↦ inner-end (n .block) C l high
+    | no m ↦ absurd (m (n .largest c C (outer-start (n .block) C (omega arith) low high) s))
+  ]
+
+  clear-next : {a : ℕ} {b : Block} → Next W S a b → (cs : List Block) → AllBlocks W cs → ((i x : ℕ) → CoversAt W cs i x → S x)
+      → ((i x : ℕ) → CoversAt W cs i x → b .address ≤ x) → Clear W (end W b) cs
+  clear-next n [] C s l = tt
+  clear-next {b = b} n (c ∷ cs) C s l = (
+    elim (decLt (c .address) (end W b)) [
+      | yes h ↦ inl (next-holds n (C .0) (s 0) (l 0 (c .address) (covers-first (C .0))) h)
+      | no m ↦ inr (omega arith)
+    ],
+    clear-next n cs (C .1) (λ i. s (suc i)) (λ i. l (suc i)),
+  )
+
+  -- a first block below a is of no use
+  rival-skip : {a : ℕ} {c : Block} {cs : List Block} → Rival W S a (c ∷ cs) → end W c ≤ a → Rival W S a cs
+  rival-skip {c = c} {cs = cs} r l = record {
+    blocks = r .blocks .1;
+    rising = rising-tail c cs (r .rising);
+    clear = r .clear .1;
+    inside = λ i. r .inside (suc i);
+    covers = λ x h s k. uncover c cs x (r .blocks .0) (omega arith) (r .covers x h s k);
+  }
+
+  module _ {a : ℕ} {b c : Block} {cs : List Block} (n : Next W S a b) (r : Rival W S a (c ∷ cs)) (l : a ≤ c .address) where
+    -- any other first block starts where the next block b does, and is no larger
+    rival-start : c .address ≡ b .address
+    rival-start =
+        let first = r .covers (b .address) (n .block .below) (n .inside (b .address) (covers-first (n .block))) (n .above) in
+        let up = rising-above W c cs (r .blocks) (r .rising) (first .0) (b .address) (first .1) in
+        let down : ¬ (c .address < b .address) = λ h. n .lowest (c .address) l h (r .inside 0 (c .address) (covers-first (r .blocks .0))) in
+        omega arith
+
+    rival-length : b .length ≤ c .length
+    rival-length = n .largest c (r .blocks .0) rival-start (r .inside 0)
+
+    -- the others rival the tight list behind b
+    rival-next : Rival W S (end W b) cs
+    rival-next =
+        let e = rival-start in
+        let ends = inner-end (n .block) (r .blocks .0) rival-length (omega (arith, size-pos W b)) in
+        record {
+          blocks = r .blocks .1;
+          rising = rising-tail c cs (r .rising);
+          clear = clear-next n cs (r .blocks .1) (λ i. r .inside (suc i)) (λ i x h. omega (arith, rising-above W c cs (r .blocks) (r .rising) (suc i) x h));
+          inside = λ i. r .inside (suc i);
+          covers = λ x h s k. uncover c cs x (r .blocks .0) (omega arith) (r .covers x h s (omega (arith, n .above)));
+        }
+
+    -- if they are that list, the first block is b: were it smaller, nothing would cover the last address of b
+    rival-first : {bs : List Block} → Tight W S (end W b) bs → cs ≡ bs → c ≡ b
+    rival-first {bs} t p = block-path c b rival-start (omega (arith, rival-length, whole))
+      where
+        x : ℕ
+        x = end W b - 1
+
+        pos : 0 < size W b
+        pos = size-pos W b
+
+        whole : ¬ (b .length < c .length)
+        whole h = lost (r .covers x (omega (arith, end-le (n .block), pos)) (n .inside x (covers-last (n .block))) (omega (arith, n .above, pos)))
+          where
+            lost : CoveredBy W (c ∷ cs) x → ⊥
+            lost (zero, q) =
+                let less : size W c < size W b = pow-lt (omega (arith, r .blocks .0 .short)) in
+                omega (arith, covers→within (r .blocks .0) q .high, rival-start, pos)
+            lost (suc i, q) = omega (arith, pos, tight-above t i x (subst (λ (d : List Block). CoversAt W d i x) p q))
+
+  tight-shortest : {a : ℕ} (cs bs : List Block) → Tight W S a bs → Rival W S a cs → (cs ≡ bs) ⊎ (L.length bs < L.length cs)
+  tight-shortest [] [] t r = inl refl
+  tight-shortest [] (b ∷ bs) (next n t) r = absurd (r .covers (b .address) (n .block .below) (n .inside (b .address) (covers-first (n .block))) (n .above) .1)
+  tight-shortest (c ∷ cs) [] t r = inr (zero-lt-suc (L.length cs))
+  tight-shortest (c ∷ cs) (b ∷ bs) (next n t) r =
+      let same = tight-shortest cs (b ∷ bs) (next n t) in
+      let rest = tight-shortest cs bs t in
+      elim (r .clear .0) [
+        | inl h ↦ elim (same (rival-skip r h)) [ inl e ↦ inr (omega (arith, ap L.length e)) | inr k ↦ inr (omega arith) ]
+        | inr l ↦ elim (rest (rival-next n r l)) [ inl e ↦ inl (ap₂ _∷_ (rival-first n r l t e) e) | inr k ↦ inr (omega arith) ]
+      ]
+
+-- ---- the theorems
+
+-- THEOREM: a tight list is the list of the fewest blocks.
+pub tight-fewest : {W : ℕ} {S : ℕ → Type 0} {bs : List Block} → Tight W S 0 bs → Fewest W S bs
+tight-fewest {W} {S} {bs} t = record {
+  blocks = tight-blocks t;
+  rising = tight-rising t;
+  exactly = λ x h. (λ s. tight-covers t x h s (omega arith), λ c. tight-inside t (c .0) x (c .1));
+  once = tight-once t;
+  fewest = λ cs C r e. tight-shortest cs bs t (record {
+    blocks = C;
+    rising = r;
+    clear = clear-zero W cs;
+    inside = λ i x c. e x (covered-below W cs i x c) .1 (i, c);
+    covers = λ x h s l. e x h .0 s;
+  });
+}
+
+-- THEOREM: a set has one list of the fewest blocks.
+pub fewest-unique : {W : ℕ} {S : ℕ → Type 0} {bs cs : List Block} → Fewest W S bs → Fewest W S cs → bs ≡ cs
+fewest-unique {bs = bs} {cs = cs} F G =
+    elim (F .fewest cs (G .blocks) (G .rising) (G .exactly)) [
+      | inl e ↦ sym e
+      | inr h ↦ elim (G .fewest bs (F .blocks) (F .rising) (F .exactly)) [ inl e ↦ e | inr k ↦ absurd (omega arith) ]
+    ]
+
+-- Sets with the same addresses have the same list.
+pub fewest-same : {W : ℕ} {S R : ℕ → Type 0} {bs : List Block} → ((x : ℕ) → x < 2 ^ W → S x ↔ R x) → Fewest W S bs → Fewest W R bs
+fewest-same {W} {S} {R} e F = record {
+  blocks = F .blocks;
+  rising = F .rising;
+  exactly = λ x h. (λ r. F .exactly x h .0 (e x h .1 r), λ c. e x h .0 (F .exactly x h .1 c));
+  once = F .once;
+  fewest = λ cs C r f. F .fewest cs C r (λ x h. (λ s. f x h .0 (e x h .0 s), λ c. e x h .1 (f x h .1 c)));
+}

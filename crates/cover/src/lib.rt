@@ -1,0 +1,43 @@
+// One step of the walk over a range of addresses: how large the next block is, and where it ends.
+// The same code serves both families: an IPv4 address is a number whose upper half is 0, and the width is 32.
+ghost use mathlib.Core.Path.{_≡_};
+ghost use Prim.Native.Nat.{_+_, _-_, _^_, min};
+ghost use Rattle.wide.specs.Value.{value, log2};
+ghost use Rattle.cover.specs.Blocks.{NextBlock, largest};
+use wide::Wide;
+
+// The next block of a range: it has 2 ^ bits addresses, and `end` is the last of them.
+pub struct Step {
+    pub bits: u32,
+    pub end: Wide,
+}
+
+fn smaller(a: u32, b: u32) -> u32
+    ensures { λ r. ⌜ r ≡ min a b ⌝ }
+{
+    if a < b { a } else { b }
+}
+
+// The exponent of the largest power of two among the `span` + 1 addresses that are left. There may be 2 ^ 128 of them, a
+// number that has no room in 128 bits, so the number of addresses itself is never formed.
+fn room(span: Wide) -> u32
+    ensures { λ r. ⌜ r ≡ log2 128 (value span + 1) ⌝ }
+{
+    if span.same(Wide::ones(128)) {
+        return 128;
+    }
+    span.saturating_add(Wide::from_halves(0, 1)).log2()
+}
+
+// The next block of the range from start to last, of addresses of `width` bits: as large as the start has trailing zero
+// bits, and no larger than what is left. Where start is above last the answer is the one address at start.
+pub fn next_block(start: Wide, last: Wide, width: u32) -> Step
+    ensures { λ r. ⌜ NextBlock width (value start) (value last) (r .bits) (value (r .end)) ⌝ }
+{
+    let low = smaller(start.trailing_zeros(), width);
+    let bits = smaller(low, room(last.saturating_sub(start)));
+    Step {
+        bits,
+        end: start.saturating_add(Wide::ones(bits)),
+    }
+}
