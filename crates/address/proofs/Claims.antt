@@ -4,15 +4,13 @@ use mathlib.Core.Logic.{_↔_}
 use mathlib.Core.Bool.{Bool, true, false, cond, false≢true}
 use mathlib.Core.List.{List, [], _∷_}
 use Prim.Native.Nat.{ℕ, zero, suc, _+_, _-_, _*_, _/_, _%_, _^_, _≤_, _<_}
-use native.Mathlib.Nat.{le-of-eq}
 use native.Mathlib.Decide.{decLe, ℕ-discrete}
 use native.Mathlib.Omega.{arith}
 use borrow.Author.Tests.{eqb-true, eq-eqb, ne-eqb}
 use lib.Arith.{digits-lt}
 use lib.Dec.{lit<}
-use lib.ListN.{length, getD, take, drop, length-drop}
+use lib.ListN.{length, getD}
 use lib.Pow.{high, low}
-use lib.Seq.{take-all}
 use Rattle.address.specs.declared.Address.{Address}
 use Rattle.address.specs.declared.Address.the-variants.{V4, V6}
 use Rattle.address.specs.declared.Block.{Block}
@@ -25,11 +23,8 @@ use Rattle.address.specs.declared.Writing.the-variants as writing
 use Rattle.address.specs.declared.BlockReading.{BlockReading}
 use Rattle.address.specs.declared.BlockReading.the-variants as block
 use Rattle.address.specs.Answers.{Answer, refusalNumber, precedence, holds, firstOf, refusal, gives, refuses, readingAnswer, writingAnswer, blockAnswer}
-use Rattle.address.specs.Addresses.{IsAddress, width, number, sameAddress, octets, octetsAnswer, groupsOf, groupsAddress}
-use Rattle.address.specs.BigEndian.{digitsOf, numberOf}
+use Rattle.address.specs.Addresses.{IsAddress, width, number, sameAddress}
 use Rattle.address.specs.Blocks.{numbered, blockRefusal}
-use Rattle.address.proofs.DigitLaws.{AllBelow, digits-length, digits-number, number-digits, halves-number, halves-digits}
-use Rattle.address.proofs.AddressLaws.{octets-length, read-4, read-6, read-other}
 use Rattle.address.proofs.BlockLaws.{refusal-length, refusal-bits, refusal-none}
 use Rattle.cover.specs.Blocks.{IsBlock}
 
@@ -97,7 +92,7 @@ refusal-first reasons = go precedence
 -- ---- a promise about the paper's answer fixes the code's answer
 
 module _ {A : Type 0} where
-  gives-one : {a b : A} → gives a ≡ gives b → a ≡ b
+  pub gives-one : {a b : A} → gives a ≡ gives b → a ≡ b
   gives-one h = ap (λ (r : Answer A). r .fields) h
 
   gives-refuses : {a none : A} (e : Refusal) → gives a ≡ refuses none e → ⊥
@@ -123,49 +118,6 @@ one-block-reading (block.Read a) (block.Read b) h = ap block.Read (gives-one h)
 one-block-reading (block.Read a) (block.Refused f) h = absurd (gives-refuses f h)
 one-block-reading (block.Refused e) (block.Read b) h = absurd (gives-refuses e (sym h))
 one-block-reading (block.Refused e) (block.Refused f) h = ap block.Refused (refuses-one e f h)
-
--- ---- groups and octets
-
--- The groups of two halves give the halves back, and the halves of eight groups the groups.
-pub halves-of-groups : (hi lo : ℕ) → hi < 2 ^ 64 → lo < 2 ^ 64 → groupsAddress (groupsOf hi lo) ≡ V6 hi lo
-unfolding groupsAddress groupsOf
-halves-of-groups hi lo h l = let back = halves-number 65536 4 (lit< tt) hi lo h l in ap₂ V6 (back .0) (back .1)
-
-pub groups-of-halves : (gs : List ℕ) (hi lo : ℕ) → length gs ≡ 8 → AllBelow 65536 gs → groupsAddress gs ≡ V6 hi lo → groupsOf hi lo ≡ gs
-unfolding groupsAddress groupsOf
-groups-of-halves gs hi lo long small e =
-    let h : numberOf 65536 (take 4 gs) ≡ hi = cc in
-    let l : numberOf 65536 (drop 4 gs) ≡ lo = cc in
-    rw (← h, ← l) (halves-digits 65536 4 (lit< tt) gs long small)
-
--- An address put into bytes is taken back.
-pub octets-read-back : (a : Address) → IsAddress a → octetsAnswer (octets a) ≡ gives a
-unfolding octets
-octets-read-back (V4 v) h =
-    let long = digits-length 256 4 v in
-    sym (read-4 (octets (V4 v)) v long (sym (ap (numberOf 256) (take-all 4 (octets (V4 v)) (le-of-eq long)) ∙ digits-number 256 (lit< tt) 4 v h)))
-octets-read-back (V6 hi lo) h =
-    let bs = octets (V6 hi lo) in
-    let long = octets-length (V6 hi lo) in
-    let back = halves-number 256 8 (lit< tt) hi lo (h .0) (h .1) in
-    sym (read-6 bs hi lo long (sym (back .0)) (sym (ap (numberOf 256) (take-all 8 (drop 8 bs) (le-of-eq (length-drop 8 bs ∙ ap (λ (n : ℕ). n - 8) long))) ∙ back .1)))
-
--- And bytes that are an address are that address's bytes.
-pub octets-of-read : (bs : List ℕ) (a : Address) → AllBelow 256 bs → octetsAnswer bs ≡ gives a → octets a ≡ bs
-unfolding octets
-octets-of-read bs a small e = elim (ℕ-discrete (length bs) 4) [
-  | yes four ↦
-      let whole = take-all 4 bs (le-of-eq four) in
-      let is : a ≡ V4 (numberOf 256 bs) = gives-one (sym e ∙ sym (read-4 bs (numberOf 256 bs) four (ap (numberOf 256) (sym whole)))) in
-      ap octets is ∙ ap (λ (n : ℕ). digitsOf 256 n (numberOf 256 bs)) (sym four) ∙ number-digits 256 (lit< tt) bs small
-  | no n ↦ elim (ℕ-discrete (length bs) 16) [
-    | yes long ↦
-        let whole = take-all 8 (drop 8 bs) (le-of-eq (length-drop 8 bs ∙ ap (λ (n : ℕ). n - 8) long)) in
-        let is : a ≡ V6 (numberOf 256 (take 8 bs)) (numberOf 256 (drop 8 bs)) = gives-one (sym e ∙ sym (read-6 bs _ _ long refl (ap (numberOf 256) (sym whole)))) in
-        ap octets is ∙ halves-digits 256 8 (lit< tt) bs long small
-    | no m ↦ absurd (omega (arith, ap (λ (r : Answer Address). r .number) (sym e ∙ sym (read-other bs n m))))
-  ]
-]
 
 -- ---- equality
 

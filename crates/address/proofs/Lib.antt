@@ -1,8 +1,7 @@
--- DigitLaws: digits and the number they write. BufferLaws: what writers leave. AnswerLaws: refusals and answers. AddressLaws: order and equality.
--- BlockLaws: a block's two rules. Claims: the theorems, gathered for a reader.
-pub mod DigitLaws
-pub mod BufferLaws
+-- AnswerLaws: what writers answer and leave. BufferLaws: what a second write leaves. AddressLaws: order told by tests. BlockLaws: a block's two rules.
+-- Claims: the theorems, gathered for a reader.
 pub mod AnswerLaws
+pub mod BufferLaws
 pub mod AddressLaws
 pub mod BlockLaws
 pub mod Claims

@@ -7,9 +7,6 @@ ghost use Rattle.address.specs.Answers.{refusalNumber, checkNumber};
 ghost use Rattle.address.specs.Blocks.{blockRefusal, sameBlock};
 use wide::Wide;
 
-pub mod groups;
-pub mod octets;
-
 // The halves of an IPv6 address are its first and its last 64 bits.
 pub enum Address {
     V4(u32),

@@ -6,6 +6,9 @@ ghost use lib.Dec.{ltb, eqb};
 ghost use lib.Count.{trailingZeros};
 ghost use Rattle.wide.specs.Value.{value, log2};
 
+// The largest half.
+const MOST: u64 = 0xffff_ffff_ffff_ffff;
+
 pub struct Wide {
     pub hi: u64,
     pub lo: u64,
@@ -64,12 +67,11 @@ impl Wide {
         let al = self.lo;
         let bh = other.hi;
         let bl = other.lo;
-        let most = 18446744073709551615;
         let lo = std::num::wrapping_add_u64(al, bl);
-        let room = most - ah;
+        let room = MOST - ah;
         if lo < al {
             if room <= bh {
-                return Wide { hi: most, lo: most };
+                return Wide { hi: MOST, lo: MOST };
             }
             return Wide {
                 hi: ah + bh + 1,
@@ -77,7 +79,7 @@ impl Wide {
             };
         }
         if room < bh {
-            return Wide { hi: most, lo: most };
+            return Wide { hi: MOST, lo: MOST };
         }
         Wide { hi: ah + bh, lo }
     }
@@ -104,7 +106,7 @@ impl Wide {
         }
         Wide {
             hi: ah - bh - 1,
-            lo: 18446744073709551615 - bl + al + 1,
+            lo: MOST - bl + al + 1,
         }
     }
 
@@ -152,7 +154,6 @@ impl Wide {
     pub fn ones(k: u32) -> Wide
         ensures { λ r. ⌜ value r ≡ 2 ^ min k 128 - 1 ⌝ }
     {
-        let most = 18446744073709551615;
         if k < 64 {
             return Wide {
                 hi: 0,
@@ -162,9 +163,9 @@ impl Wide {
         if k < 128 {
             return Wide {
                 hi: (1u64 << (k - 64)) - 1,
-                lo: most,
+                lo: MOST,
             };
         }
-        Wide { hi: most, lo: most }
+        Wide { hi: MOST, lo: MOST }
     }
 }

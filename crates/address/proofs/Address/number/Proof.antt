@@ -1,6 +1,6 @@
 -- `address::Address::number` meets its contract. Assumes nothing.
 use mathlib.Core.Path.{sym, ap, _∙_}
-use native.Mathlib.Omega.{arith}
+use native.Mathlib.Nat.{zero-add}
 use Rattle.address.specs.Addresses.{number}
 use borrow.Author.Needs.{needs}
 use Rattle.address.proofs.Address.number.Statement.{statement}
@@ -23,7 +23,8 @@ from-halves-requires-2 c κs = search needs
 
 returns : tie.Need-returns
 returns c =
-    c .from-halves .ensures ∙ sym (ap number (c .before .before .self .given .1) ∙ (omega arith))
+    let v = c .before .before .self .given .0 .0 in
+    c .from-halves .ensures ∙ zero-add v ∙ sym (ap number (c .before .before .self .given .1))
 
 returns-2 : tie.Need-returns-2
 returns-2 c =

@@ -12,11 +12,11 @@ use Rattle.wide.proofs.Wide.ones.Tie as tie
 shifted : (k : ℕ) → k < 64 → 1 * 2 ^ k % 2 ^ 64 ≡ 2 ^ k
 shifted k h = shl-exact 1 k 64 (omega arith) (omega arith) ∙ one-mul (2 ^ k)
 
-shl-t5 : tie.Need-shl-t5
-shl-t5 c = search needs
+shl-t4 : tie.Need-shl-t4
+shl-t4 c = search needs
 
-sub-t6 : tie.Need-sub-t6
-sub-t6 c = rw (shifted (c .before .args .k) (c .if1 .taken)) (pow-pos (c .before .args .k))
+sub-t5 : tie.Need-sub-t5
+sub-t5 c = rw (shifted (c .before .args .k) (c .if1 .taken)) (pow-pos (c .before .args .k))
 
 returns : tie.Need-returns
 returns c =
@@ -24,14 +24,14 @@ returns c =
     let m : min k 128 ≡ k = omega arith in
     rw (shifted k (c .if1 .taken), m) (omega arith)
 
-cast-t8 : tie.Need-cast-t8
-cast-t8 c = search needs
+cast-t7 : tie.Need-cast-t7
+cast-t7 c = search needs
 
-shl-t9 : tie.Need-shl-t9
-shl-t9 c = search needs
+shl-t8 : tie.Need-shl-t8
+shl-t8 c = search needs
 
-sub-t10 : tie.Need-sub-t10
-sub-t10 c = let k = c .before .before .args .k in rw (shifted (k - 64) (omega arith)) (pow-pos (k - 64))
+sub-t9 : tie.Need-sub-t9
+sub-t9 c = let k = c .before .before .args .k in rw (shifted (k - 64) (omega arith)) (pow-pos (k - 64))
 
 returns-2 : tie.Need-returns-2
 returns-2 c =
@@ -43,4 +43,4 @@ returns-3 : tie.Need-returns-3
 returns-3 c = let m : min (c .before .before .args .k) 128 ≡ 128 = omega arith in rw m
 
 pub ones-spec : {M : Type 1} → statement M
-ones-spec = tie.close (tie.spec shl-t5 sub-t6 returns cast-t8 shl-t9 sub-t10 returns-2 returns-3)
+ones-spec = tie.close (tie.spec shl-t4 sub-t5 returns cast-t7 shl-t8 sub-t9 returns-2 returns-3)

@@ -19,11 +19,11 @@ returns c =
     let b = c .before .before .before .args .other in
     add-full (2 ^ 64) (a .hi) (a .lo) (b .hi) (b .lo) 1 18446744073709551615 (omega arith) (omega arith) (omega arith)
 
+add-t11 : tie.Need-add-t11
+add-t11 c = search needs
+
 add-t12 : tie.Need-add-t12
 add-t12 c = search needs
-
-add-t13 : tie.Need-add-t13
-add-t13 c = search needs
 
 returns-2 : tie.Need-returns-2
 returns-2 c =
@@ -37,8 +37,8 @@ returns-3 c =
     let b = c .before .before .before .args .other in
     add-full (2 ^ 64) (a .hi) (a .lo) (b .hi) (b .lo) 0 18446744073709551615 (omega arith) (omega arith) (omega arith)
 
-add-t14 : tie.Need-add-t14
-add-t14 c = search needs
+add-t13 : tie.Need-add-t13
+add-t13 c = search needs
 
 returns-4 : tie.Need-returns-4
 returns-4 c =
@@ -53,9 +53,9 @@ saturating-add-spec =
     wrapping-add-u64-requires
     sub-room
     returns
+    add-t11
     add-t12
-    add-t13
     returns-2
     returns-3
-    add-t14
+    add-t13
     returns-4)
