@@ -7,23 +7,23 @@ use native.Mathlib.Omega.{arith}
 use lib.Count.{trailingZeros}
 use lib.ListN as L
 use Rattle.wide.proofs.Trailing.{aligned-trailing}
-use Rattle.cover.specs.Blocks.{Block, IsBlock, Fewest, Range, total, largest, rangeBlocks}
-use Rattle.cover.proofs.Interval.{end, Nested, laminar}
-use Rattle.cover.proofs.Tight.{Tight, tight-fewest, fewest-unique}
-use Rattle.cover.proofs.Range.{largest-le, largest-fits, range-fewest}
+use Rattle.cover.specs.Blocks.{Block, IsBlock, Covers, Fewest, Greedy, Range, total, largest, rangeBlocks}
+use Rattle.cover.proofs.Interval as interval
+use Rattle.cover.proofs.Greedy as greedy
+use Rattle.cover.proofs.Range.{largest-le, largest-may, range-fewest}
 use Rattle.cover.proofs.RangeCount.{range-total, range-count, range-count-reached}
 
--- Two blocks are apart, or one is in the other.
+-- Of two blocks one covers all that the other covers, or no address is covered by both.
 pub nested-or-apart : {W : ℕ} {b c : Block} → IsBlock W b → IsBlock W c
-    → (end W b ≤ c .address) ⊎ (end W c ≤ b .address) ⊎ Nested W b c ⊎ Nested W c b
-nested-or-apart = laminar
+    → ((x : ℕ) → Covers W c x → Covers W b x) ⊎ ((x : ℕ) → Covers W b x → Covers W c x) ⊎ ((x : ℕ) → Covers W b x → Covers W c x → ⊥)
+nested-or-apart = interval.nested-or-apart
 
 -- The greedy list of any set of addresses is its fewest, and a set has one list of the fewest.
-pub greedy-fewest : {W : ℕ} {S : ℕ → Type 0} {bs : List Block} → Tight W S 0 bs → Fewest W S bs
-greedy-fewest = tight-fewest
+pub greedy-is-fewest : {W : ℕ} {S : ℕ → Type 0} {bs : List Block} → Greedy W S 0 bs → Fewest W S bs
+greedy-is-fewest = greedy.greedy-fewest
 
 pub one-fewest : {W : ℕ} {S : ℕ → Type 0} {bs cs : List Block} → Fewest W S bs → Fewest W S cs → bs ≡ cs
-one-fewest = fewest-unique
+one-fewest = greedy.fewest-unique
 
 -- Demand 3: the blocks of a range rise, cover each address from first to last once and no other, and every other such list is longer.
 pub range-is-fewest : (W first last : ℕ) → last < 2 ^ W → Fewest W (Range first last) (rangeBlocks W first last)
@@ -35,7 +35,7 @@ sizes-add-up W first last h = omega (arith, range-total W first last)
 
 -- A block may be as large as its starting address has trailing zero bits, and no larger.
 pub at-most-trailing : (W a last : ℕ) → a ≤ last → largest W a last ≤ trailingZeros W a
-at-most-trailing W a last h = aligned-trailing W a (largest W a last) (largest-le W a last) .0 (largest-fits W a last h .aligned)
+at-most-trailing W a last h = aligned-trailing W a (largest W a last) (largest-le W a last) .0 (largest-may W a last h .aligned)
 
 -- At most 2 W - 2 blocks, and that many are reached: 62 for IPv4, 254 for IPv6.
 pub at-most : (W first last : ℕ) → 2 ≤ W → last < 2 ^ W → L.length (rangeBlocks W first last) ≤ 2 * W - 2

@@ -6,12 +6,8 @@ use native.Mathlib.Nat.{div-mul-le-self, lt-div-mul-add, div-eq-of-lt-le, add-mu
 use native.Mathlib.Decide.{decLe, decLt}
 use native.Mathlib.Omega.{arith}
 use lib.Pow.{pow-pos}
-use Rattle.cover.specs.Blocks.{Block, IsBlock, Covers, size}
+use Rattle.cover.specs.Blocks.{Block, IsBlock, Covers, size, end}
 use Rattle.wide.proofs.Aligned.{quotient, aligned-gap, aligned-mono, aligned-next, aligned-pow}
-
--- the address after the block's last
-abbrev pub end : ℕ → Block → ℕ
-end W b = b .address + size W b
 
 pub record Within (W : ℕ) (b : Block) (x : ℕ) : Type 0 where
   pub low : b .address ≤ x
@@ -74,7 +70,7 @@ pub record Nested (W : ℕ) (b c : Block) : Type 0 where
   pub low : b .address ≤ c .address
   pub high : end W c ≤ end W b
 
--- THEOREM: two blocks are disjoint or one is in the other.
+-- two blocks are disjoint or one is in the other
 pub laminar : {W : ℕ} {b c : Block} → IsBlock W b → IsBlock W c → (end W b ≤ c .address) ⊎ (end W c ≤ b .address) ⊎ Nested W b c ⊎ Nested W c b
 laminar {W} {b} {c} B C =
     elim (decLe (end W b) (c .address)) [
@@ -96,3 +92,21 @@ laminar {W} {b} {c} B C =
           | yes h ↦ record { low = h; high = high }
           | no n ↦ record { low = omega (arith, outer-start C B l (omega arith) q); high = high }
         ]
+
+-- ---- the same of what they cover
+
+nested-covers : {W : ℕ} {b c : Block} → IsBlock W b → IsBlock W c → Nested W b c → (x : ℕ) → Covers W c x → Covers W b x
+nested-covers B C n x h = let w = covers→within C h in within→covers B (record { low = omega arith; high = omega arith })
+
+apart-covers : {W : ℕ} {b c : Block} → IsBlock W b → IsBlock W c → end W b ≤ c .address → (x : ℕ) → Covers W b x → Covers W c x → ⊥
+apart-covers B C l x h k = let v = covers→within B h in let w = covers→within C k in omega arith
+
+pub nested-or-apart : {W : ℕ} {b c : Block} → IsBlock W b → IsBlock W c
+    → ((x : ℕ) → Covers W c x → Covers W b x) ⊎ ((x : ℕ) → Covers W b x → Covers W c x) ⊎ ((x : ℕ) → Covers W b x → Covers W c x → ⊥)
+nested-or-apart B C = elim (laminar B C) [
+  | inl l ↦ inr (inr (apart-covers B C l))
+  | inr rest ↦ elim rest [
+    | inl l ↦ inr (inr (λ x h k. apart-covers C B l x k h))
+    | inr nested ↦ elim nested [ inl n ↦ inl (nested-covers B C n) | inr n ↦ inr (inl (nested-covers C B n)) ]
+  ]
+]

@@ -1,8 +1,8 @@
--- Interval: a block as an interval; two blocks are nested or apart. Tight: the greedy list of any set is its fewest, and the only one.
+-- Interval: a block as an interval; two blocks are nested or apart. Greedy: the greedy list of any set is its fewest, and the only one.
 -- Range: the blocks of a range are its fewest. RangeStep: one step of the walk. RangeCount: how many blocks, and how many addresses.
 -- Claims: the theorems, gathered for a reader.
 pub mod Interval
-pub mod Tight
+pub mod Greedy
 pub mod Range
 pub mod RangeStep
 pub mod RangeCount

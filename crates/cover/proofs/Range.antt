@@ -10,63 +10,63 @@ use native.Mathlib.Omega.{arith}
 use lib.Dec.{leb, eqb}
 use borrow.Author.Tests.{leb-true, eqb-true, le-leb, lt-leb, eq-eqb}
 use lib.Pow.{pow-pos, pow-mono}
-use Rattle.cover.specs.Blocks.{Block, IsBlock, Fewest, Range, fits, largest, blocksFrom, rangeBlocks, size}
+use Rattle.cover.specs.Blocks.{Block, IsBlock, Fewest, Range, mayStart, largest, blocksFrom, rangeBlocks, Next, Greedy, done, next, size, end}
 use Rattle.wide.proofs.Aligned.{Aligned, aligned-mono, aligned-nothing}
 use Rattle.wide.proofs.Greatest.{greatest-le, greatest-passes, greatest-max, greatest-is}
-use Rattle.cover.proofs.Interval.{end, covers→within, covers-last}
-use Rattle.cover.proofs.Tight.{Next, Tight, done, next, tight-lower, tight-fewest}
+use Rattle.cover.proofs.Interval.{covers→within, covers-last}
+use Rattle.cover.proofs.Greedy.{greedy-lower, greedy-fewest}
 
 -- ---- the largest block from a on
 
--- 2 ^ k addresses from a on are a block that ends at `last` or before
-pub record Fits (a last k : ℕ) : Type 0 where
+-- what the test `mayStart` tells
+pub record MayStart (a last k : ℕ) : Type 0 where
   pub aligned : Aligned k a
   pub room : a + 2 ^ k ≤ suc last
 
-fits→ : (a last k : ℕ) → fits a last k ≡ true → Fits a last k
-fits→ a last k e =
+may→ : (a last k : ℕ) → mayStart a last k ≡ true → MayStart a last k
+may→ a last k e =
     let both = and-eq-true-iff (eqb (a % 2 ^ k) 0) (leb (a + 2 ^ k) (suc last)) .0 e in
     record { aligned = eqb-true (a % 2 ^ k) 0 (both .0); room = leb-true (a + 2 ^ k) (suc last) (both .1) }
 
-→fits : (a last k : ℕ) → Fits a last k → fits a last k ≡ true
-→fits a last k h =
+→may : (a last k : ℕ) → MayStart a last k → mayStart a last k ≡ true
+→may a last k h =
     and-eq-true-iff (eqb (a % 2 ^ k) 0) (leb (a + 2 ^ k) (suc last)) .1
     (eq-eqb (a % 2 ^ k) 0 (h .aligned), le-leb (a + 2 ^ k) (suc last) (h .room))
 
-pub fits-smaller : {a last k : ℕ} (j : ℕ) → j ≤ k → Fits a last k → Fits a last j
-fits-smaller {a} {last} {k} j l h = record { aligned = aligned-mono a l (h .aligned); room = omega (arith, h .room, pow-mono l) }
+pub may-smaller : {a last k : ℕ} (j : ℕ) → j ≤ k → MayStart a last k → MayStart a last j
+may-smaller {a} {last} {k} j l h = record { aligned = aligned-mono a l (h .aligned); room = omega (arith, h .room, pow-mono l) }
 
-pub fits-one : {a last : ℕ} → a ≤ last → Fits a last 0
-fits-one {a} l = record { aligned = aligned-nothing a; room = omega arith }
+pub may-one : {a last : ℕ} → a ≤ last → MayStart a last 0
+may-one {a} l = record { aligned = aligned-nothing a; room = omega arith }
 
 pub largest-le : (W a last : ℕ) → largest W a last ≤ W
 unfolding largest
-largest-le W a last = greatest-le (fits a last) W
+largest-le W a last = greatest-le (mayStart a last) W
 
-pub largest-fits : (W a last : ℕ) → a ≤ last → Fits a last (largest W a last)
+pub largest-may : (W a last : ℕ) → a ≤ last → MayStart a last (largest W a last)
 unfolding largest
-largest-fits W a last l = fits→ a last (largest W a last) (greatest-passes (fits a last) W (→fits a last 0 (fits-one l)))
+largest-may W a last l = may→ a last (largest W a last) (greatest-passes (mayStart a last) W (→may a last 0 (may-one l)))
 
-pub largest-max : (W a last k : ℕ) → k ≤ W → Fits a last k → k ≤ largest W a last
+pub largest-max : (W a last k : ℕ) → k ≤ W → MayStart a last k → k ≤ largest W a last
 unfolding largest
-largest-max W a last k l h = greatest-max (fits a last) W k l (→fits a last k h)
+largest-max W a last k l h = greatest-max (mayStart a last) W k l (→may a last k h)
 
--- above last nothing fits
+-- above last no block may start
 pub largest-none : (W a last : ℕ) → last < a → largest W a last ≡ 0
 unfolding largest
-largest-none W a last h = greatest-is (fits a last) W 0 (omega arith) (λ p. absurd (omega arith)) (λ j p q. no-fit j)
+largest-none W a last h = greatest-is (mayStart a last) W 0 (omega arith) (λ p. absurd (omega arith)) (λ j p q. no-start j)
   where
-    no-fit : (j : ℕ) → fits a last j ≡ false
-    no-fit j = rw (lt-leb (a + 2 ^ j) (suc last) (omega (arith, pow-pos j))) (and-false (eqb (a % 2 ^ j) 0))
+    no-start : (j : ℕ) → mayStart a last j ≡ false
+    no-start j = rw (lt-leb (a + 2 ^ j) (suc last) (omega (arith, pow-pos j))) (and-false (eqb (a % 2 ^ j) 0))
 
--- a k that fits is the largest if it is W, or the next does not fit
-pub largest-is : (W a last k : ℕ) → k ≤ W → Fits a last k → (k ≡ W) ⊎ (¬ Fits a last (suc k)) → largest W a last ≡ k
+-- a size that may start is the largest if it is W, or the next may not
+pub largest-is : (W a last k : ℕ) → k ≤ W → MayStart a last k → (k ≡ W) ⊎ (¬ MayStart a last (suc k)) → largest W a last ≡ k
 largest-is W a last k l h top =
     let up = largest-max W a last k l h in
-    let f = largest-fits W a last (omega (arith, pow-pos k)) in
+    let f = largest-may W a last (omega (arith, pow-pos k)) in
     elim top [
       | inl e ↦ omega (arith, largest-le W a last)
-      | inr n ↦ let down : ¬ (k < largest W a last) = λ m. n (fits-smaller (suc k) m f) in omega arith
+      | inr n ↦ let down : ¬ (k < largest W a last) = λ m. n (may-smaller (suc k) m f) in omega arith
     ]
 
 -- ---- block after block
@@ -147,8 +147,8 @@ next-largest W first last a top low high = record {
     k : ℕ
     k = largest W a last
 
-    f : Fits a last k
-    f = largest-fits W a last high
+    f : MayStart a last k
+    f = largest-may W a last high
 
     k≤W : k ≤ W
     k≤W = largest-le W a last
@@ -163,16 +163,16 @@ next-largest W first last a top low high = record {
     bound c C e s =
         let j = W - c .length in
         let p = pow-pos j in
-        let fit : Fits a last j = record { aligned = subst (Aligned j) e (C .aligned); room = omega arith } in
+        let fit : MayStart a last j = record { aligned = subst (Aligned j) e (C .aligned); room = omega arith } in
         omega (arith, largest-max W a last j (omega arith) fit)
 
-pub range-tight : (W first last : ℕ) → last < 2 ^ W → Tight W (Range first last) 0 (rangeBlocks W first last)
-range-tight W first last top =
-    tight-lower (omega arith) (λ x l h s. omega arith)
+pub range-greedy : (W first last : ℕ) → last < 2 ^ W → Greedy W (Range first last) 0 (rangeBlocks W first last)
+range-greedy W first last top =
+    greedy-lower (omega arith) (λ x l h s. omega arith)
     (range-ind W last P (λ a h l. done (λ x k t s. omega arith)) step first (le-refl first))
   where
     P : ℕ → List Block → Type 0
-    P a bs = first ≤ a → Tight W (Range first last) a bs
+    P a bs = first ≤ a → Greedy W (Range first last) a bs
 
     step : (a : ℕ) (bs : List Block) → a ≤ last → P (a + 2 ^ largest W a last) bs → P a (blockAt W a (largest W a last) ∷ bs)
     step a bs h ih l =
@@ -181,4 +181,4 @@ range-tight W first last top =
 
 -- THEOREM: the blocks of a range are the fewest.
 pub range-fewest : (W first last : ℕ) → last < 2 ^ W → Fewest W (Range first last) (rangeBlocks W first last)
-range-fewest W first last top = tight-fewest (range-tight W first last top)
+range-fewest W first last top = greedy-fewest (range-greedy W first last top)

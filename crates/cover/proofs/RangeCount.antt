@@ -10,7 +10,7 @@ use lib.ListN as L
 use lib.Pow.{pow-pos, pow-mono}
 use Rattle.cover.specs.Blocks.{Block, total, largest, rangeBlocks}
 use Rattle.wide.proofs.Aligned.{Aligned, aligned-dec, aligned-gap, aligned-mono, aligned-nothing, aligned-zero, aligned-next, aligned-back, aligned-pow, aligned-not, aligned-odd}
-use Rattle.cover.proofs.Range.{Fits, blockAt, size-blockAt, largest-le, largest-fits, largest-max, range-done, range-largest, range-ind}
+use Rattle.cover.proofs.Range.{MayStart, blockAt, size-blockAt, largest-le, largest-may, largest-max, range-done, range-largest, range-ind}
 use Rattle.cover.proofs.RangeStep.{range-step}
 
 -- THEOREM: the sizes of a range's blocks add up to last - first + 1.
@@ -21,7 +21,7 @@ range-total W first last = range-ind W last (λ a bs. total W bs ≡ suc last - 
         → total W (blockAt W a (largest W a last) ∷ bs) ≡ suc last - a
     step a bs h ih =
         let k = largest W a last in
-        let room = largest-fits W a last h .room in
+        let room = largest-may W a last h .room in
         omega (arith, size-blockAt W a k (largest-le W a last))
 
 module _ (W last : ℕ) where
@@ -32,7 +32,7 @@ module _ (W last : ℕ) where
   count-done : (a : ℕ) → last < a → count a ≡ 0
   count-done a h = ap L.length (range-done W last a h)
 
-  count-step : (a k : ℕ) → k ≤ W → Fits a last k → ¬ Fits a last (suc k) → count a ≡ suc (count (a + 2 ^ k))
+  count-step : (a k : ℕ) → k ≤ W → MayStart a last k → ¬ MayStart a last (suc k) → count a ≡ suc (count (a + 2 ^ k))
   count-step a k l f n = ap L.length (range-step W a last k l f (inr n))
 
   -- on the way down from a multiple of 2 ^ k, fewer than 2 ^ k addresses are left: at most one block of each smaller size
@@ -45,7 +45,7 @@ module _ (W last : ℕ) where
       elim (decLt (suc last) (a + 2 ^ k)) [
         | yes m ↦ omega (arith, same m)
         | no m ↦
-            let f : Fits a last k = record { aligned = ak; room = omega arith } in
+            let f : MayStart a last k = record { aligned = ak; room = omega arith } in
             omega (arith, rest (omega arith), count-step a k (omega arith) f (λ g. omega arith))
       ]
 
@@ -63,7 +63,7 @@ module _ (W last : ℕ) where
           | yes even ↦ omega (arith, count-up d (suc j) a C (omega arith) even (rw e k) low top (omega arith))
           | no odd ↦
               let gap = aligned-gap j h (aligned-mono C (omega arith) k) m in
-              let f : Fits a last j = record { aligned = h; room = omega arith } in
+              let f : MayStart a last j = record { aligned = h; room = omega arith } in
               let step = count-step a j (omega arith) f (λ g. odd (g .aligned)) in
               omega (arith, count-up d (suc j) (a + 2 ^ j) C (omega arith) (aligned-odd j a h odd) (rw e k) gap top (omega arith))
         ]
@@ -75,7 +75,7 @@ module _ (W last : ℕ) where
   count-whole m B l h e =
       let k = largest W B last in
       let low : B ≤ last = omega (arith, pow-pos m) in
-      let f : Fits B last m = record { aligned = h; room = omega arith } in
+      let f : MayStart B last m = record { aligned = h; room = omega arith } in
       let more = pow-mono (largest-max W B last m l f) in
       omega (arith, ap L.length (range-largest W last B low), count-done (B + 2 ^ k) (omega arith))
 
@@ -139,7 +139,7 @@ module _ (W : ℕ) where
           let next : a + 2 ^ j ≡ 2 ^ W - 2 ^ j = omega arith in
           let whole : a + 2 ^ j + 2 ^ j ≡ 2 ^ W = omega arith in
           let even : Aligned j a = aligned-back j a (aligned-back j (a + 2 ^ j) (rw whole (aligned-pow (omega arith)))) in
-          let f : Fits a top j = record { aligned = even; room = omega (arith, two) } in
+          let f : MayStart a top j = record { aligned = even; room = omega (arith, two) } in
           count-step W top a j (omega arith) f (λ g. omega (arith, g .room, two)) ∙ ap suc (ap (count W top) next ∙ go j (omega arith))
 
   -- up to the middle one block of each size
@@ -150,7 +150,7 @@ module _ (W : ℕ) where
       let pos = pow-pos i in
       let next : 2 ^ i + 2 ^ i ≡ 2 ^ suc i = omega arith in
       let same : d + suc i ≡ suc d + i = omega arith in
-      let f : Fits (2 ^ i) top i = record { aligned = aligned-pow (omega arith); room = omega arith } in
+      let f : MayStart (2 ^ i) top i = record { aligned = aligned-pow (omega arith); room = omega arith } in
       let step = count-step W top (2 ^ i) i (omega arith) f (λ g. aligned-not i (g .aligned)) in
       let rest = reach-up d (suc i) (omega arith) in
       step ∙ ap suc (ap (count W top) next ∙ rest ∙ ap (λ (j : ℕ). d + count W top (2 ^ j)) same) ∙ sym (suc-add d (count W top (2 ^ (suc d + i))))

@@ -12,7 +12,7 @@ use Rattle.wide.specs.Value.{log2}
 use Rattle.wide.proofs.Greatest.{log2-le, log2-max, log2-is}
 use Rattle.wide.proofs.Trailing.{aligned-trailing}
 use Rattle.cover.specs.Blocks.{NextBlock, largest, rangeBlocks}
-use Rattle.cover.proofs.Range.{Fits, blockAt, largest-le, largest-fits, largest-max, largest-none, largest-is, range-done, range-largest}
+use Rattle.cover.proofs.Range.{MayStart, blockAt, largest-le, largest-may, largest-max, largest-none, largest-is, range-done, range-largest}
 
 -- ---- what the code computes
 
@@ -24,15 +24,15 @@ module _ (M W a last : ℕ) (small : last < 2 ^ M) where
   abbrev computed : ℕ
   computed = min (min (trailingZeros M a) W) (log2 M (last - a + 1))
 
-  computed-fits : a ≤ last → Fits a last computed
-  computed-fits h =
+  computed-may : a ≤ last → MayStart a last computed
+  computed-may h =
       let t : computed ≤ trailingZeros M a = omega arith in
       let l : computed ≤ M = omega (arith, trailing-le M a) in
       let r : computed ≤ log2 M (last - a + 1) = omega arith in
       record { aligned = aligned-trailing M a computed l .1 t; room = omega (arith, pow-mono r, log2-le M (last - a + 1) (omega arith)) }
 
-  -- whatever fits is no larger
-  computed-max : (j : ℕ) → j ≤ W → Fits a last j → j ≤ computed
+  -- whatever mayStart is no larger
+  computed-max : (j : ℕ) → j ≤ W → MayStart a last j → j ≤ computed
   computed-max j l f =
       let m : j ≤ M = pow-cancel j M (omega (arith, f .room)) in
       let t = aligned-trailing M a j m .0 (f .aligned) in
@@ -43,8 +43,8 @@ module _ (M W a last : ℕ) (small : last < 2 ^ M) where
   pub largest-computed : largest W a last ≡ computed
   largest-computed = elim (decLe a last) [
     | yes h ↦
-        let up = computed-max (largest W a last) (largest-le W a last) (largest-fits W a last h) in
-        let down = largest-max W a last computed (omega arith) (computed-fits h) in
+        let up = computed-max (largest W a last) (largest-le W a last) (largest-may W a last h) in
+        let down = largest-max W a last computed (omega arith) (computed-may h) in
         omega arith
     | no n ↦
         let one : last - a + 1 ≡ 1 = omega arith in
@@ -57,7 +57,7 @@ module _ (M W a last : ℕ) (small : last < 2 ^ M) where
   largest-end top = (
     omega (arith, largest-computed, trailing-le M a),
     elim (decLe a last) [
-      | yes h ↦ omega (arith, largest-fits W a last h .room)
+      | yes h ↦ omega (arith, largest-may W a last h .room)
       | no n ↦ let z = ap (λ (k : ℕ). 2 ^ k) (largest-none W a last (omega arith)) in omega arith
     ],
   )
@@ -66,7 +66,7 @@ module _ (M W a last : ℕ) (small : last < 2 ^ M) where
 
 module _ (W a last : ℕ) where
   -- the first block of the range from a on has 2 ^ k addresses, and the others are those of the range behind it
-  pub range-step : (k : ℕ) → k ≤ W → Fits a last k → (k ≡ W) ⊎ (¬ Fits a last (suc k))
+  pub range-step : (k : ℕ) → k ≤ W → MayStart a last k → (k ≡ W) ⊎ (¬ MayStart a last (suc k))
       → rangeBlocks W a last ≡ blockAt W a k ∷ rangeBlocks W (a + 2 ^ k) last
   range-step k l h top =
       subst (λ j. rangeBlocks W a last ≡ blockAt W a j ∷ rangeBlocks W (a + 2 ^ j) last) (largest-is W a last k l h top)
@@ -83,7 +83,7 @@ module _ {W a last bits end : ℕ} (n : NextBlock W a last bits end) where
 
     -- the walk stays in the range, so that nothing wraps at the last address
     pub step-within : (a ≤ end) × (end ≤ last)
-    step-within = (omega (arith, step-end, pow-pos (largest W a last)), omega (arith, step-end, largest-fits W a last h .room))
+    step-within = (omega (arith, step-end, pow-pos (largest W a last)), omega (arith, step-end, largest-may W a last h .room))
 
     step : rangeBlocks W a last ≡ blockAt W a bits ∷ rangeBlocks W (suc end) last
     step = rw (step-end, n .size) (range-largest W last a h)

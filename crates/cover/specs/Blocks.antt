@@ -31,6 +31,10 @@ pub record Covers (W : ℕ) (b : Block) (x : ℕ) : Type 0 where
   pub below : x < 2 ^ W
   pub agrees : x / size W b ≡ b .address / size W b
 
+-- the address after the block's last
+abbrev pub end : ℕ → Block → ℕ
+end W b = b .address + size W b
+
 -- ---- lists of blocks
 
 -- the block at position i of the list covers x
@@ -68,6 +72,27 @@ pub record Fewest (W : ℕ) (S : ℕ → Type 0) (bs : List Block) : Type 0 wher
   -- every other rising list of blocks with that cover is longer
   pub fewest : (cs : List Block) → AllBlocks W cs → Rising cs → Exactly W S cs → (cs ≡ bs) ⊎ (L.length bs < L.length cs)
 
+-- ---- the greedy list of a set
+
+-- every address of the block is in S
+abbrev pub Inside : ℕ → (ℕ → Type 0) → Block → Type 0
+Inside W S b = (x : ℕ) → Covers W b x → S x
+
+-- b starts at the lowest address of S from a on, and is the largest block of S that starts there
+pub record Next (W : ℕ) (S : ℕ → Type 0) (a : ℕ) (b : Block) : Type 0 where
+  pub block : IsBlock W b
+  pub above : a ≤ b .address
+  pub lowest : (x : ℕ) → a ≤ x → x < b .address → ¬ S x
+  pub inside : Inside W S b
+  pub largest : (c : Block) → IsBlock W c → c .address ≡ b .address → Inside W S c → b .length ≤ c .length
+
+-- the list is next block after next block of S, from a on, until nothing of S is left over
+pub data Greedy (W : ℕ) (S : ℕ → Type 0) : ℕ → List Block → Type 0 where
+  done : {a : ℕ} → ((x : ℕ) → a ≤ x → x < 2 ^ W → ¬ S x) → Greedy W S a []
+  next : {a : ℕ} {b : Block} {bs : List Block} → Next W S a b → Greedy W S (end W b) bs → Greedy W S a (b ∷ bs)
+
+-- ---- sizes
+
 -- the sizes of the blocks of a list, added up
 abbrev pub total : ℕ → List Block → ℕ
 total W [] = 0
@@ -80,13 +105,13 @@ abbrev pub Range : ℕ → ℕ → ℕ → Type 0
 Range first last x = (first ≤ x) × (x ≤ last)
 
 -- 2 ^ k addresses from a on are a block, and the last of them is at most `last`
-abbrev pub fits : ℕ → ℕ → ℕ → Bool
-fits a last k = eqb (a % 2 ^ k) 0 && leb (a + 2 ^ k) (suc last)
+abbrev pub mayStart : ℕ → ℕ → ℕ → Bool
+mayStart a last k = eqb (a % 2 ^ k) 0 && leb (a + 2 ^ k) (suc last)
 
 -- the largest k up to W for which that is so; 0 where a is above last
 unfoldable pub largest : ℕ → ℕ → ℕ → ℕ
 unfolding greatest
-largest W a last = greatest (fits a last) W
+largest W a last = greatest (mayStart a last) W
 
 -- Blocks from a to last, each the largest that starts where the one before it ends. Each takes one address or more, so that
 -- n = last + 1 - a of them are enough.
@@ -97,7 +122,7 @@ blocksFrom W last (suc n) a =
     let k = largest W a last in
     elim (leb a last) [ true ↦ record { address = a; length = W - k } ∷ blocksFrom W last n (a + 2 ^ k) | false ↦ [] ]
 
--- The blocks of the range from first to last: its fewest, by the theorem `range-fewest`.
+-- The blocks of the range from first to last: its fewest, by the theorem `range-is-fewest`.
 unfoldable pub rangeBlocks : ℕ → ℕ → ℕ → List Block
 unfolding blocksFrom
 rangeBlocks W first last = blocksFrom W last (suc last - first) first

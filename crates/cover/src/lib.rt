@@ -12,6 +12,7 @@ pub struct Step {
     pub end: Wide,
 }
 
+// The smaller of two numbers.
 fn smaller(a: u32, b: u32) -> u32
     ensures { λ r. ⌜ r ≡ min a b ⌝ }
 {

@@ -13,9 +13,9 @@ use Rattle.address.specs.declared.Address.the-variants.{V4, V6}
 use Rattle.address.specs.Addresses.{IsAddress}
 use Rattle.address.specs.Answers.{Answer, gives}
 use Rattle.address.proofs.Claims.{gives-one}
-use Rattle.octets.specs.BigEndian.{digitsOf, numberOf}
+use Rattle.octets.specs.BigEndian.{AllBelow, digitsOf, numberOf}
 use Rattle.octets.specs.Octets.{octets, octetsAnswer, groupsOf, groupsAddress}
-use Rattle.octets.proofs.DigitLaws.{AllBelow, digits-length, digits-number, number-digits, halves-number, halves-digits}
+use Rattle.octets.proofs.DigitLaws.{digits-length, digits-number, number-digits, halves-number, halves-digits}
 use Rattle.octets.proofs.OctetLaws.{octets-length, read-4, read-6, read-other}
 
 -- The groups of two halves give the halves back, and the halves of eight groups the groups.

@@ -8,12 +8,7 @@ use native.Mathlib.Omega.{arith}
 use lib.Arith.{digits-lt, digits-div, digits-mod}
 use lib.ListN.{length, getD, take, drop, length-append, length-drop, take-append-drop}
 use lib.Seq.{drop-cons, length-take-le, take-at, drop-at}
-use Rattle.octets.specs.BigEndian.{digitsOf, numberFrom, numberOf}
-
--- every element is a digit of the base
-abbrev pub AllBelow : ℕ → List ℕ → Type 0
-AllBelow base [] = Unit {0}
-AllBelow base (d ∷ ds) = (d < base) × AllBelow base ds
+use Rattle.octets.specs.BigEndian.{AllBelow, digitsOf, numberFrom, numberOf}
 
 pub digits-length : (base n x : ℕ) → length (digitsOf base n x) ≡ n
 unfolding digitsOf

@@ -54,6 +54,7 @@ pub fn write_octets(address: Address, out: &mut [u8]) -> Writing
     }
 }
 
+// Four bytes as one number, the first of them highest.
 fn join(a: u8, b: u8, c: u8, d: u8) -> u32
     ensures { λ r. ⌜ r ≡ ((a * 256 + b) * 256 + c) * 256 + d ⌝ }
 {

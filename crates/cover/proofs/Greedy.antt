@@ -8,25 +8,8 @@ use native.Mathlib.Decide.{decLe, decLt}
 use native.Mathlib.Omega.{arith}
 use lib.ListN as L
 use lib.Pow.{pow-lt}
-use Rattle.cover.specs.Blocks.{Block, IsBlock, Covers, CoversAt, CoveredBy, AllBlocks, Rising, Fewest, size}
-use Rattle.cover.proofs.Interval.{end, block-path, size-pos, end-le, covers→within, within→covers, covers-first, covers-last, inner-end, outer-start}
-
--- every address of the block is in S
-abbrev pub Inside : ℕ → (ℕ → Type 0) → Block → Type 0
-Inside W S b = (x : ℕ) → Covers W b x → S x
-
--- b starts at the lowest address of S from a on, and is the largest block of S that starts there
-pub record Next (W : ℕ) (S : ℕ → Type 0) (a : ℕ) (b : Block) : Type 0 where
-  pub block : IsBlock W b
-  pub above : a ≤ b .address
-  pub lowest : (x : ℕ) → a ≤ x → x < b .address → ¬ S x
-  pub inside : Inside W S b
-  pub largest : (c : Block) → IsBlock W c → c .address ≡ b .address → Inside W S c → b .length ≤ c .length
-
--- the list is next block after next block of S, from a on, until nothing of S is left over
-pub data Tight (W : ℕ) (S : ℕ → Type 0) : ℕ → List Block → Type 0 where
-  done : {a : ℕ} → ((x : ℕ) → a ≤ x → x < 2 ^ W → ¬ S x) → Tight W S a []
-  next : {a : ℕ} {b : Block} {bs : List Block} → Next W S a b → Tight W S (end W b) bs → Tight W S a (b ∷ bs)
+use Rattle.cover.specs.Blocks.{Block, IsBlock, CoversAt, CoveredBy, AllBlocks, Rising, Fewest, Inside, Next, Greedy, done, next, size, end}
+use Rattle.cover.proofs.Interval.{block-path, size-pos, end-le, covers→within, within→covers, covers-first, covers-last, inner-end, outer-start}
 
 -- ---- lists of blocks
 
@@ -50,32 +33,32 @@ rising-above W c cs B r zero x h = covers→within (B .0) h .low
 rising-above W c [] B r (suc i) x h = absurd h
 rising-above W c (d ∷ cs) B r (suc i) x h = omega (arith, r .0, rising-above W d cs (B .1) (r .1) i x h)
 
--- ---- a tight list is a rising list of blocks, and covers each address of S from a on once
+-- ---- a greedy list is a rising list of blocks, and covers each address of S from a on once
 
 module _ {W : ℕ} {S : ℕ → Type 0} where
-  pub tight-blocks : {a : ℕ} {bs : List Block} → Tight W S a bs → AllBlocks W bs
-  tight-blocks (done e) = tt
-  tight-blocks (next n t) = (n .block, tight-blocks t)
+  pub greedy-blocks : {a : ℕ} {bs : List Block} → Greedy W S a bs → AllBlocks W bs
+  greedy-blocks (done e) = tt
+  greedy-blocks (next n t) = (n .block, greedy-blocks t)
 
-  pub tight-rising : {a : ℕ} {bs : List Block} → Tight W S a bs → Rising bs
-  tight-rising (done e) = tt
-  tight-rising (next n (done e)) = tt
-  tight-rising (next n (next m t)) = (omega (arith, m .above), tight-rising (next m t))
+  pub greedy-rising : {a : ℕ} {bs : List Block} → Greedy W S a bs → Rising bs
+  greedy-rising (done e) = tt
+  greedy-rising (next n (done e)) = tt
+  greedy-rising (next n (next m t)) = (omega (arith, m .above), greedy-rising (next m t))
 
-  pub tight-above : {a : ℕ} {bs : List Block} → Tight W S a bs → (i x : ℕ) → CoversAt W bs i x → a ≤ x
-  tight-above (done e) i x c = absurd c
-  tight-above (next n t) zero x c = omega (arith, n .above, covers→within (n .block) c .low)
-  tight-above (next n t) (suc i) x c = omega (arith, n .above, tight-above t i x c)
+  pub greedy-above : {a : ℕ} {bs : List Block} → Greedy W S a bs → (i x : ℕ) → CoversAt W bs i x → a ≤ x
+  greedy-above (done e) i x c = absurd c
+  greedy-above (next n t) zero x c = omega (arith, n .above, covers→within (n .block) c .low)
+  greedy-above (next n t) (suc i) x c = omega (arith, n .above, greedy-above t i x c)
 
-  pub tight-inside : {a : ℕ} {bs : List Block} → Tight W S a bs → (i x : ℕ) → CoversAt W bs i x → S x
-  tight-inside (done e) i x c = absurd c
-  tight-inside (next n t) zero x c = n .inside x c
-  tight-inside (next n t) (suc i) x c = tight-inside t i x c
+  pub greedy-inside : {a : ℕ} {bs : List Block} → Greedy W S a bs → (i x : ℕ) → CoversAt W bs i x → S x
+  greedy-inside (done e) i x c = absurd c
+  greedy-inside (next n t) zero x c = n .inside x c
+  greedy-inside (next n t) (suc i) x c = greedy-inside t i x c
 
-  pub tight-covers : {a : ℕ} {bs : List Block} → Tight W S a bs → (x : ℕ) → x < 2 ^ W → S x → a ≤ x → CoveredBy W bs x
-  tight-covers (done e) x h s l = absurd (e x l h s)
-  tight-covers (next {b = b} {bs = bs} n t) x h s l =
-      let rest : end W b ≤ x → CoveredBy W bs x = tight-covers t x h s in
+  pub greedy-covers : {a : ℕ} {bs : List Block} → Greedy W S a bs → (x : ℕ) → x < 2 ^ W → S x → a ≤ x → CoveredBy W bs x
+  greedy-covers (done e) x h s l = absurd (e x l h s)
+  greedy-covers (next {b = b} {bs = bs} n t) x h s l =
+      let rest : end W b ≤ x → CoveredBy W bs x = greedy-covers t x h s in
       elim (decLt x (b .address)) [
         | yes k ↦ absurd (n .lowest x l k s)
         | no m ↦ elim (decLt x (end W b)) [
@@ -84,17 +67,17 @@ module _ {W : ℕ} {S : ℕ → Type 0} where
         ]
       ]
 
-  pub tight-once : {a : ℕ} {bs : List Block} → Tight W S a bs → (x i j : ℕ) → CoversAt W bs i x → CoversAt W bs j x → i ≡ j
-  tight-once (done e) x i j c d = absurd c
-  tight-once (next n t) x zero zero c d = refl
-  tight-once (next n t) x zero (suc j) c d = omega (arith, covers→within (n .block) c .high, tight-above t j x d)
-  tight-once (next n t) x (suc i) zero c d = omega (arith, covers→within (n .block) d .high, tight-above t i x c)
-  tight-once (next n t) x (suc i) (suc j) c d = ap suc (tight-once t x i j c d)
+  pub greedy-once : {a : ℕ} {bs : List Block} → Greedy W S a bs → (x i j : ℕ) → CoversAt W bs i x → CoversAt W bs j x → i ≡ j
+  greedy-once (done e) x i j c d = absurd c
+  greedy-once (next n t) x zero zero c d = refl
+  greedy-once (next n t) x zero (suc j) c d = omega (arith, covers→within (n .block) c .high, greedy-above t j x d)
+  greedy-once (next n t) x (suc i) zero c d = omega (arith, covers→within (n .block) d .high, greedy-above t i x c)
+  greedy-once (next n t) x (suc i) (suc j) c d = ap suc (greedy-once t x i j c d)
 
-  -- where S has nothing from a up to c, a list that is tight from c on is tight from a on
-  pub tight-lower : {a c : ℕ} {bs : List Block} → a ≤ c → ((x : ℕ) → a ≤ x → x < c → ¬ S x) → Tight W S c bs → Tight W S a bs
-  tight-lower {a} {c} l gap (done e) = done (λ x k h. elim (decLt x c) [ yes m ↦ gap x k m | no n ↦ e x (omega arith) h ])
-  tight-lower {a} {c} l gap (next n t) = next {a = a} (record {
+  -- where S has nothing from a up to c, a list that is greedy from c on is greedy from a on
+  pub greedy-lower : {a c : ℕ} {bs : List Block} → a ≤ c → ((x : ℕ) → a ≤ x → x < c → ¬ S x) → Greedy W S c bs → Greedy W S a bs
+  greedy-lower {a} {c} l gap (done e) = done (λ x k h. elim (decLt x c) [ yes m ↦ gap x k m | no n ↦ e x (omega arith) h ])
+  greedy-lower {a} {c} l gap (next n t) = next {a = a} (record {
     block = n .block;
     above = omega (arith, n .above);
     lowest = λ x k h. elim (decLt x c) [ yes m ↦ gap x k m | no o ↦ n .lowest x (omega arith) h ];
@@ -113,7 +96,7 @@ clear-zero : (W : ℕ) (cs : List Block) → Clear W 0 cs
 clear-zero W [] = tt
 clear-zero W (c ∷ cs) = (inr (omega arith), clear-zero W cs)
 
--- A rival of the tight list from a on: rising blocks of S, none of them on both sides of a, that cover all of S from a on. It may cover some of S below a too, and may cover an address twice.
+-- A rival of the greedy list from a on: rising blocks of S, none of them on both sides of a, that cover all of S from a on. It may cover some of S below a too, and may cover an address twice.
 record Rival (W : ℕ) (S : ℕ → Type 0) (a : ℕ) (cs : List Block) : Type 0 where
   blocks : AllBlocks W cs
   rising : Rising cs
@@ -162,7 +145,7 @@ module _ {W : ℕ} {S : ℕ → Type 0} where
     rival-length : b .length ≤ c .length
     rival-length = n .largest c (r .blocks .0) rival-start (r .inside 0)
 
-    -- the others rival the tight list behind b
+    -- the others rival the greedy list behind b
     rival-next : Rival W S (end W b) cs
     rival-next =
         let e = rival-start in
@@ -176,7 +159,7 @@ module _ {W : ℕ} {S : ℕ → Type 0} where
         }
 
     -- if they are that list, the first block is b: were it smaller, nothing would cover the last address of b
-    rival-first : {bs : List Block} → Tight W S (end W b) bs → cs ≡ bs → c ≡ b
+    rival-first : {bs : List Block} → Greedy W S (end W b) bs → cs ≡ bs → c ≡ b
     rival-first {bs} t p = block-path c b rival-start (omega (arith, rival-length, whole))
       where
         x : ℕ
@@ -192,15 +175,15 @@ module _ {W : ℕ} {S : ℕ → Type 0} where
             lost (zero, q) =
                 let less : size W c < size W b = pow-lt (omega (arith, r .blocks .0 .short)) in
                 omega (arith, covers→within (r .blocks .0) q .high, rival-start, pos)
-            lost (suc i, q) = omega (arith, pos, tight-above t i x (subst (λ (d : List Block). CoversAt W d i x) p q))
+            lost (suc i, q) = omega (arith, pos, greedy-above t i x (subst (λ (d : List Block). CoversAt W d i x) p q))
 
-  tight-shortest : {a : ℕ} (cs bs : List Block) → Tight W S a bs → Rival W S a cs → (cs ≡ bs) ⊎ (L.length bs < L.length cs)
-  tight-shortest [] [] t r = inl refl
-  tight-shortest [] (b ∷ bs) (next n t) r = absurd (r .covers (b .address) (n .block .below) (n .inside (b .address) (covers-first (n .block))) (n .above) .1)
-  tight-shortest (c ∷ cs) [] t r = inr (zero-lt-suc (L.length cs))
-  tight-shortest (c ∷ cs) (b ∷ bs) (next n t) r =
-      let same = tight-shortest cs (b ∷ bs) (next n t) in
-      let rest = tight-shortest cs bs t in
+  greedy-shortest : {a : ℕ} (cs bs : List Block) → Greedy W S a bs → Rival W S a cs → (cs ≡ bs) ⊎ (L.length bs < L.length cs)
+  greedy-shortest [] [] t r = inl refl
+  greedy-shortest [] (b ∷ bs) (next n t) r = absurd (r .covers (b .address) (n .block .below) (n .inside (b .address) (covers-first (n .block))) (n .above) .1)
+  greedy-shortest (c ∷ cs) [] t r = inr (zero-lt-suc (L.length cs))
+  greedy-shortest (c ∷ cs) (b ∷ bs) (next n t) r =
+      let same = greedy-shortest cs (b ∷ bs) (next n t) in
+      let rest = greedy-shortest cs bs t in
       elim (r .clear .0) [
         | inl h ↦ elim (same (rival-skip r h)) [ inl e ↦ inr (omega (arith, ap L.length e)) | inr k ↦ inr (omega arith) ]
         | inr l ↦ elim (rest (rival-next n r l)) [ inl e ↦ inl (ap₂ _∷_ (rival-first n r l t e) e) | inr k ↦ inr (omega arith) ]
@@ -208,14 +191,14 @@ module _ {W : ℕ} {S : ℕ → Type 0} where
 
 -- ---- the theorems
 
--- THEOREM: a tight list is the list of the fewest blocks.
-pub tight-fewest : {W : ℕ} {S : ℕ → Type 0} {bs : List Block} → Tight W S 0 bs → Fewest W S bs
-tight-fewest {W} {S} {bs} t = record {
-  blocks = tight-blocks t;
-  rising = tight-rising t;
-  exactly = λ x h. (λ s. tight-covers t x h s (omega arith), λ c. tight-inside t (c .0) x (c .1));
-  once = tight-once t;
-  fewest = λ cs C r e. tight-shortest cs bs t (record {
+-- THEOREM: a greedy list is the list of the fewest blocks.
+pub greedy-fewest : {W : ℕ} {S : ℕ → Type 0} {bs : List Block} → Greedy W S 0 bs → Fewest W S bs
+greedy-fewest {W} {S} {bs} t = record {
+  blocks = greedy-blocks t;
+  rising = greedy-rising t;
+  exactly = λ x h. (λ s. greedy-covers t x h s (omega arith), λ c. greedy-inside t (c .0) x (c .1));
+  once = greedy-once t;
+  fewest = λ cs C r e. greedy-shortest cs bs t (record {
     blocks = C;
     rising = r;
     clear = clear-zero W cs;
