@@ -3,9 +3,9 @@ use mathlib.Core.Path.{_≡_, sym, ap, _∙_}
 use mathlib.Core.List.{List, [], _++_, append-assoc, append-nil}
 use Prim.Native.Nat.{ℕ, _+_, _-_}
 use native.Mathlib.Nat.{le-of-eq}
+use borrow.Rule.Slice.PartMut.{putMid, midOf, postOf}
 use lib.ListN.{length, take, drop, length-drop, drop-of-length-le}
 use lib.Seq.{take-all, take-at, drop-at, drop-drop}
-use borrow.Rule.Slice.PartMut.{putMid, midOf, postOf}
 
 -- the rest of a buffer from n on, as a callee that is lent `&mut out[n..]` has it
 pub rest : (n : ℕ) (xs : List ℕ) → midOf n (length xs - n) xs ≡ drop n xs

@@ -11,22 +11,22 @@ use lib.Arith.{digits-lt}
 use lib.Dec.{lit<}
 use lib.ListN.{length, getD}
 use lib.Pow.{high, low}
+use Rattle.cover.specs.Blocks.{IsBlock}
 use Rattle.address.specs.declared.Address.{Address}
 use Rattle.address.specs.declared.Address.the-variants.{V4, V6}
 use Rattle.address.specs.declared.Block.{Block}
 use Rattle.address.specs.declared.Refusal.{Refusal}
 use Rattle.address.specs.declared.Refusal.the-variants.{TextTooLong, Malformed, NoRoom, LengthTooLarge, BitsBeyondLength, NoClass, HostTooLarge, FirstAboveLast, WrongFamily}
 use Rattle.address.specs.declared.Reading.{Reading}
-use Rattle.address.specs.declared.Reading.the-variants as reading
 use Rattle.address.specs.declared.Writing.{Writing}
-use Rattle.address.specs.declared.Writing.the-variants as writing
 use Rattle.address.specs.declared.BlockReading.{BlockReading}
-use Rattle.address.specs.declared.BlockReading.the-variants as block
 use Rattle.address.specs.Answers.{Answer, refusalNumber, precedence, holds, firstOf, refusal, gives, refuses, readingAnswer, writingAnswer, blockAnswer}
 use Rattle.address.specs.Addresses.{IsAddress, width, number, sameAddress}
 use Rattle.address.specs.Blocks.{numbered, blockRefusal}
+use Rattle.address.specs.declared.Reading.the-variants as reading
+use Rattle.address.specs.declared.Writing.the-variants as writing
+use Rattle.address.specs.declared.BlockReading.the-variants as block
 use Rattle.address.proofs.BlockLaws.{refusal-length, refusal-bits, refusal-none}
-use Rattle.cover.specs.Blocks.{IsBlock}
 
 -- ---- refusals
 

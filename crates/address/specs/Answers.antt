@@ -5,17 +5,17 @@ use Prim.Native.Nat.{ℕ}
 use lib.Dec.{eqb, ltb}
 use lib.ListN.{length, drop}
 use Rattle.address.specs.declared.Address.{Address}
-use Rattle.address.specs.declared.Address.the-variants.{V4, V6}
+use Rattle.address.specs.declared.Address.the-variants.{V4}
 use Rattle.address.specs.declared.Block.{Block}
 use Rattle.address.specs.declared.Refusal.{Refusal}
 use Rattle.address.specs.declared.Refusal.the-variants.{TextTooLong, Malformed, NoRoom, LengthTooLarge, BitsBeyondLength, NoClass, HostTooLarge, FirstAboveLast, WrongFamily}
 use Rattle.address.specs.declared.Reading.{Reading}
-use Rattle.address.specs.declared.Reading.the-variants as reading
 use Rattle.address.specs.declared.Writing.{Writing}
-use Rattle.address.specs.declared.Writing.the-variants as writing
 use Rattle.address.specs.declared.BlockReading.{BlockReading}
-use Rattle.address.specs.declared.BlockReading.the-variants as block
 use Rattle.address.specs.declared.Check.{Check}
+use Rattle.address.specs.declared.Reading.the-variants as reading
+use Rattle.address.specs.declared.Writing.the-variants as writing
+use Rattle.address.specs.declared.BlockReading.the-variants as block
 use Rattle.address.specs.declared.Check.the-variants as check
 
 -- the table's numbers

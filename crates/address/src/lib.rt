@@ -1,6 +1,5 @@
 // An IP address as a value of one of two kinds, why a call says no, and blocks of addresses.
 ghost use mathlib.Core.Path.{_≡_};
-ghost use Prim.Native.Nat.{_<_};
 ghost use Rattle.wide.specs.Value.{value};
 ghost use Rattle.address.specs.Addresses.{family, width, number, addressOrder, sameAddress};
 ghost use Rattle.address.specs.Answers.{refusalNumber, checkNumber};
@@ -50,6 +49,7 @@ pub enum BlockReading {
     Refused(Refusal),
 }
 
+// Whether a block value is good, or why not.
 pub enum Check {
     Valid,
     Refused(Refusal),
@@ -64,6 +64,7 @@ pub enum Order {
 }
 
 impl Refusal {
+    // The number of the table, 1 to 9.
     pub fn number(self) -> u8
         ensures { λ r. ⌜ r ≡ refusalNumber self ⌝ }
     {
@@ -112,6 +113,7 @@ impl Address {
         }
     }
 
+    // How the address stands to the other: by their numbers, if they are of one family.
     pub fn compare(self, other: Address) -> Order
         ensures { λ r. ⌜ r ≡ addressOrder self other ⌝ }
     {
@@ -129,6 +131,7 @@ impl Address {
         Order::Above
     }
 
+    // Whether both are of one family and one number.
     pub fn same(self, other: Address) -> bool
         ensures { λ r. ⌜ r ≡ sameAddress self other ⌝ }
     {
@@ -162,6 +165,7 @@ impl Block {
         Check::Refused(Refusal::BitsBeyondLength)
     }
 
+    // Whether address and length are the same.
     pub fn same(self, other: Block) -> bool
         ensures { λ r. ⌜ r ≡ sameBlock self other ⌝ }
     {

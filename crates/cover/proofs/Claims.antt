@@ -2,16 +2,16 @@
 use mathlib.Core.Path.{_≡_, refl}
 use mathlib.Core.Logic.{_⊎_}
 use mathlib.Core.List.{List, [], _∷_}
-use Prim.Native.Nat.{ℕ, suc, _+_, _-_, _*_, _^_, _≤_, _<_}
+use Prim.Native.Nat.{ℕ, _+_, _-_, _*_, _^_, _≤_, _<_}
 use native.Mathlib.Omega.{arith}
 use lib.Count.{trailingZeros}
 use lib.ListN as L
 use Rattle.wide.proofs.Trailing.{aligned-trailing}
 use Rattle.cover.specs.Blocks.{Block, IsBlock, Covers, Fewest, Greedy, Range, total, largest, rangeBlocks}
-use Rattle.cover.proofs.Interval as interval
-use Rattle.cover.proofs.Greedy as greedy
 use Rattle.cover.proofs.Range.{largest-le, largest-may, range-fewest}
 use Rattle.cover.proofs.RangeCount.{range-total, range-count, range-count-reached}
+use Rattle.cover.proofs.Interval as interval
+use Rattle.cover.proofs.Greedy as greedy
 
 -- Of two blocks one covers all that the other covers, or no address is covered by both.
 pub nested-or-apart : {W : ℕ} {b c : Block} → IsBlock W b → IsBlock W c

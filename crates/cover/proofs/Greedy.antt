@@ -1,13 +1,13 @@
 -- The fewest blocks of any set are those taken greedily from below, each as large as the set allows. Assumes nothing.
 use mathlib.Core.Path.{_≡_, refl, sym, ap, ap₂, subst}
-use mathlib.Core.Logic.{_⊎_, inl, inr, _↔_}
+use mathlib.Core.Logic.{_⊎_, inl, inr}
 use mathlib.Core.List.{List, [], _∷_}
 use Prim.Native.Nat.{ℕ, zero, suc, _-_, _^_, _≤_, _<_}
 use native.Mathlib.Nat.{zero-lt-suc}
 use native.Mathlib.Decide.{decLe, decLt}
 use native.Mathlib.Omega.{arith}
-use lib.ListN as L
 use lib.Pow.{pow-lt}
+use lib.ListN as L
 use Rattle.cover.specs.Blocks.{Block, IsBlock, CoversAt, CoveredBy, AllBlocks, Rising, Fewest, Inside, Next, Greedy, done, next, size, end}
 use Rattle.cover.proofs.Interval.{block-path, size-pos, end-le, covers→within, within→covers, covers-first, covers-last, inner-end, outer-start}
 
@@ -214,13 +214,3 @@ fewest-unique {bs = bs} {cs = cs} F G =
       | inl e ↦ sym e
       | inr h ↦ elim (G .fewest bs (F .blocks) (F .rising) (F .exactly)) [ inl e ↦ e | inr k ↦ absurd (omega arith) ]
     ]
-
--- Sets with the same addresses have the same list.
-pub fewest-same : {W : ℕ} {S R : ℕ → Type 0} {bs : List Block} → ((x : ℕ) → x < 2 ^ W → S x ↔ R x) → Fewest W S bs → Fewest W R bs
-fewest-same {W} {S} {R} e F = record {
-  blocks = F .blocks;
-  rising = F .rising;
-  exactly = λ x h. (λ r. F .exactly x h .0 (e x h .1 r), λ c. e x h .0 (F .exactly x h .1 c));
-  once = F .once;
-  fewest = λ cs C r f. F .fewest cs C r (λ x h. (λ s. f x h .0 (e x h .0 s), λ c. e x h .1 (f x h .1 c)));
-}

@@ -1,13 +1,13 @@
 -- A block is an interval of addresses, and two blocks are nested or disjoint. Assumes nothing.
 use mathlib.Core.Path.{_≡_, ap, _∙_}
 use mathlib.Core.Logic.{_⊎_, inl, inr}
-use Prim.Native.Nat.{ℕ, _+_, _-_, _*_, _/_, _^_, _≤_, _<_}
+use Prim.Native.Nat.{ℕ, _-_, _*_, _/_, _^_, _≤_, _<_}
 use native.Mathlib.Nat.{div-mul-le-self, lt-div-mul-add, div-eq-of-lt-le, add-mul, one-mul}
 use native.Mathlib.Decide.{decLe, decLt}
 use native.Mathlib.Omega.{arith}
 use lib.Pow.{pow-pos}
-use Rattle.cover.specs.Blocks.{Block, IsBlock, Covers, size, end}
 use Rattle.wide.proofs.Aligned.{quotient, aligned-gap, aligned-mono, aligned-next, aligned-pow}
+use Rattle.cover.specs.Blocks.{Block, IsBlock, Covers, size, end}
 
 pub record Within (W : ℕ) (b : Block) (x : ℕ) : Type 0 where
   pub low : b .address ≤ x

@@ -7,12 +7,12 @@ use Prim.Native.Nat.{ℕ, zero, suc, _+_, _-_, _%_, _^_, _≤_, _<_}
 use native.Mathlib.Nat.{le-refl}
 use native.Mathlib.Decide.{decLe}
 use native.Mathlib.Omega.{arith}
-use lib.Dec.{leb, eqb}
 use borrow.Author.Tests.{leb-true, eqb-true, le-leb, lt-leb, eq-eqb}
+use lib.Dec.{leb, eqb}
 use lib.Pow.{pow-pos, pow-mono}
-use Rattle.cover.specs.Blocks.{Block, IsBlock, Fewest, Range, mayStart, largest, blocksFrom, rangeBlocks, Next, Greedy, done, next, size, end}
 use Rattle.wide.proofs.Aligned.{Aligned, aligned-mono, aligned-nothing}
 use Rattle.wide.proofs.Greatest.{greatest-le, greatest-passes, greatest-max, greatest-is}
+use Rattle.cover.specs.Blocks.{Block, IsBlock, Fewest, Range, mayStart, largest, blocksFrom, rangeBlocks, Next, Greedy, done, next, size, end}
 use Rattle.cover.proofs.Interval.{covers→within, covers-last}
 use Rattle.cover.proofs.Greedy.{greedy-lower, greedy-fewest}
 

@@ -6,10 +6,10 @@ use Prim.Native.Nat.{ℕ, zero, suc, _+_, _-_, _*_, _^_, _≤_, _<_, max}
 use native.Mathlib.Nat.{le-refl, zero-add, add-zero, suc-add}
 use native.Mathlib.Decide.{decLe, decLt, ℕ-discrete}
 use native.Mathlib.Omega.{arith}
-use lib.ListN as L
 use lib.Pow.{pow-pos, pow-mono}
-use Rattle.cover.specs.Blocks.{Block, total, largest, rangeBlocks}
+use lib.ListN as L
 use Rattle.wide.proofs.Aligned.{Aligned, aligned-dec, aligned-gap, aligned-mono, aligned-nothing, aligned-zero, aligned-next, aligned-back, aligned-pow, aligned-not, aligned-odd}
+use Rattle.cover.specs.Blocks.{Block, total, largest, rangeBlocks}
 use Rattle.cover.proofs.Range.{MayStart, blockAt, size-blockAt, largest-le, largest-may, largest-max, range-done, range-largest, range-ind}
 use Rattle.cover.proofs.RangeStep.{range-step}
 

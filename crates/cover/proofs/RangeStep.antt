@@ -1,9 +1,8 @@
 -- One step of the walk over a range: what the code computes, and the laws for a loop's invariant. Assumes nothing.
-use mathlib.Core.Path.{_≡_, sym, ap, _∙_, subst}
+use mathlib.Core.Path.{_≡_, ap, _∙_, subst}
 use mathlib.Core.Logic.{_⊎_}
 use mathlib.Core.List.{[], _∷_}
 use Prim.Native.Nat.{ℕ, suc, _+_, _-_, _^_, _≤_, _<_, min}
-use native.Mathlib.Nat.{le-antisymm}
 use native.Mathlib.Decide.{decLe}
 use native.Mathlib.Omega.{arith}
 use lib.Count.{trailingZeros, trailing-le}
@@ -20,7 +19,7 @@ pow-cancel : (j m : ℕ) → 2 ^ j ≤ 2 ^ m → j ≤ m
 pow-cancel j m h = elim (decLe j m) [ yes l ↦ l | no n ↦ absurd (omega (arith, pow-lt {i = m} {j = j} (omega arith))) ]
 
 module _ (M W a last : ℕ) (small : last < 2 ^ M) where
-  -- k is the least of the trailing zeros of a, the width, and the exponent of the largest power of two that is left; M is the number of bits that the code counts in
+  -- the least of the trailing zeros of a, the width, and the exponent of the largest power of two that is left; the code counts in M bits
   abbrev computed : ℕ
   computed = min (min (trailingZeros M a) W) (log2 M (last - a + 1))
 
@@ -31,7 +30,7 @@ module _ (M W a last : ℕ) (small : last < 2 ^ M) where
       let r : computed ≤ log2 M (last - a + 1) = omega arith in
       record { aligned = aligned-trailing M a computed l .1 t; room = omega (arith, pow-mono r, log2-le M (last - a + 1) (omega arith)) }
 
-  -- whatever mayStart is no larger
+  -- whatever may start is no larger
   computed-max : (j : ℕ) → j ≤ W → MayStart a last j → j ≤ computed
   computed-max j l f =
       let m : j ≤ M = pow-cancel j M (omega (arith, f .room)) in
@@ -73,7 +72,7 @@ module _ (W a last : ℕ) where
       (range-largest W last a (omega (arith, h .room, pow-pos k)))
 
 module _ {W a last bits end : ℕ} (n : NextBlock W a last bits end) where
-  -- a block's length is a length
+  -- so that W - bits is the block's length
   pub step-short : bits ≤ W
   step-short = omega (arith, n .size, largest-le W a last)
 
@@ -85,13 +84,10 @@ module _ {W a last bits end : ℕ} (n : NextBlock W a last bits end) where
     pub step-within : (a ≤ end) × (end ≤ last)
     step-within = (omega (arith, step-end, pow-pos (largest W a last)), omega (arith, step-end, largest-may W a last h .room))
 
-    step : rangeBlocks W a last ≡ blockAt W a bits ∷ rangeBlocks W (suc end) last
+    -- the block is followed by the blocks from the next address on
+    pub step : rangeBlocks W a last ≡ blockAt W a bits ∷ rangeBlocks W (suc end) last
     step = rw (step-end, n .size) (range-largest W last a h)
 
-    -- a block that ends before the last address is followed by the blocks from the next address on
-    pub step-more : end < last → rangeBlocks W a last ≡ blockAt W a bits ∷ rangeBlocks W (suc end) last
-    step-more l = step
-
-    -- one that does not is the last
+    -- one that reaches the last address is the last block
     pub step-last : last ≤ end → rangeBlocks W a last ≡ blockAt W a bits ∷ []
     step-last l = step ∙ ap (λ bs. blockAt W a bits ∷ bs) (range-done W last (suc end) (omega arith))

@@ -1,9 +1,9 @@
 // One step of the walk over a range of addresses: how large the next block is, and where it ends.
 // The same code serves both families: an IPv4 address is a number whose upper half is 0, and the width is 32.
 ghost use mathlib.Core.Path.{_≡_};
-ghost use Prim.Native.Nat.{_+_, _-_, _^_, min};
+ghost use Prim.Native.Nat.{_+_, min};
 ghost use Rattle.wide.specs.Value.{value, log2};
-ghost use Rattle.cover.specs.Blocks.{NextBlock, largest};
+ghost use Rattle.cover.specs.Blocks.{NextBlock};
 use wide::Wide;
 
 // The next block of a range: it has 2 ^ bits addresses, and `end` is the last of them.
@@ -20,7 +20,7 @@ fn smaller(a: u32, b: u32) -> u32
 }
 
 // The exponent of the largest power of two among the `span` + 1 addresses that are left. There may be 2 ^ 128 of them, a
-// number that has no room in 128 bits, so the number of addresses itself is never formed.
+// number that has no room in 128 bits, so that case is told apart before one is added.
 fn room(span: Wide) -> u32
     ensures { λ r. ⌜ r ≡ log2 128 (value span + 1) ⌝ }
 {

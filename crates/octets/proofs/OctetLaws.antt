@@ -10,7 +10,7 @@ use lib.Seq.{take-all}
 use Rattle.address.specs.declared.Address.{Address}
 use Rattle.address.specs.declared.Address.the-variants.{V4, V6}
 use Rattle.address.specs.Addresses.{width, number}
-use Rattle.address.specs.Answers.{Answer, noAddress}
+use Rattle.address.specs.Answers.{noAddress}
 use Rattle.octets.specs.BigEndian.{digitsOf, numberOf}
 use Rattle.octets.specs.Octets.{octets, octetsAnswer}
 use Rattle.octets.proofs.DigitLaws.{digits-split, digits-length}

@@ -2,7 +2,7 @@
 -- Assumes nothing.
 use mathlib.Core.Bool.{cond, _||_, not}
 use mathlib.Core.List.{List, [], _∷_}
-use Prim.Native.Nat.{ℕ, _+_, _*_, _/_, _^_}
+use Prim.Native.Nat.{ℕ, _/_}
 use lib.Dec.{eqb}
 use lib.ListN.{length, take, drop}
 use Rattle.address.specs.declared.Address.{Address}
@@ -18,7 +18,7 @@ unfoldable pub octets : Address → List ℕ
 unfolding digitsOf
 octets a = digitsOf 256 (width a / 8) (number a)
 
--- the halves that a number of eight octets or four groups each are
+-- the IPv6 address whose halves have n digits each
 abbrev pub halves : ℕ → ℕ → List ℕ → Address
 halves base n ds = V6 (numberOf base (take n ds)) (numberOf base (drop n ds))
 
@@ -31,10 +31,12 @@ octetsAnswer bs =
 
 -- ---- the eight groups of an IPv6 address, as one value
 
+-- the groups of the address with these halves
 unfoldable pub groupsOf : ℕ → ℕ → List ℕ
 unfolding digitsOf
-groupsOf hi lo = digitsOf 65536 8 (hi * 2 ^ 64 + lo)
+groupsOf hi lo = digitsOf 65536 8 (number (V6 hi lo))
 
+-- the address with these groups
 unfoldable pub groupsAddress : List ℕ → Address
 unfolding numberOf
 groupsAddress gs = halves 65536 4 gs

@@ -1,7 +1,7 @@
 -- Multiples of a power of two: the addresses whose k lowest bits are zero. Two of them that differ are a whole power apart (`aligned-gap`). Assumes nothing.
 use mathlib.Core.Path.{_≡_, sym, ap, _∙_}
 use Prim.Native.Nat.{ℕ, suc, _+_, _-_, _*_, _/_, _%_, _^_, _≤_, _<_}
-use native.Mathlib.Nat.{zero-mod, mod-eq-of-lt, mod-self, mod-one, add-mod, add-mod-right, add-zero, suc-mul, mul-mod-left, mul-le-mul-right, lt-of-mul-lt-mul-right, div-add-mod', two-pow-succ}
+use native.Mathlib.Nat.{zero-mod, mod-eq-of-lt, mod-self, mod-one, add-mod-right, add-zero, suc-mul, mul-mod-left, mul-le-mul-right, lt-of-mul-lt-mul-right, div-add-mod', two-pow-succ}
 use native.Mathlib.Decide.{ℕ-discrete}
 use native.Mathlib.Omega.{arith}
 use lib.Pow.{mod-mod-pow, pow-pos, pow-lt}
@@ -40,9 +40,6 @@ aligned-zero k = zero-mod (2 ^ k)
 
 pub aligned-pow : {k m : ℕ} → k ≤ m → Aligned k (2 ^ m)
 aligned-pow {k} {m} l = aligned-mono (2 ^ m) l (mod-self (2 ^ m))
-
-pub aligned-add : (k a c : ℕ) → Aligned k a → Aligned k c → Aligned k (a + c)
-aligned-add k a c h l = add-mod a c (2 ^ k) ∙ rw (h, l, zero-mod)
 
 pub aligned-next : (k a : ℕ) → Aligned k a → Aligned k (a + 2 ^ k)
 aligned-next k a h = add-mod-right a (2 ^ k) ∙ h

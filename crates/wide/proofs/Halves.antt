@@ -24,6 +24,15 @@ module _ (b ah al bh bl : ℕ) where
     | no n ↦ le-ltb al bl (omega arith) ∙ sym (le-ltb (ah * b + al) (bh * b + bl) (omega (arith, ap (λ (x : ℕ). x * b) e)))
   ]
 
+  -- and they are the same where the lower ones are
+  pub low-same : ah ≡ bh → eqb al bl ≡ eqb (ah * b + al) (bh * b + bl)
+  low-same e =
+      let p = ap (λ (x : ℕ). x * b) e in
+      elim (ℕ-discrete al bl) [
+        | yes h ↦ eq-eqb al bl h ∙ sym (eq-eqb (ah * b + al) (bh * b + bl) (omega arith))
+        | no n ↦ ne-eqb al bl n ∙ sym (ne-eqb (ah * b + al) (bh * b + bl) (λ q. n (omega arith)))
+      ]
+
   -- a sum with the carry c that fits two digits
   pub add-fits : (c h l : ℕ) → al + bl ≡ c * b + l → l < b → h ≡ ah + bh + c → h < b → h * b + l ≡ min (ah * b + al + (bh * b + bl)) (b * b - 1)
   add-fits c h l low small e fits =
@@ -39,6 +48,7 @@ module _ (b ah al bh bl : ℕ) where
       let u : b * b ≡ m * b + b = ap (λ (x : ℕ). x * b) (sym e) ∙ add-mul m 1 b ∙ ap (λ (x : ℕ). m * b + x) (one-mul b) in
       omega arith
 
+  -- a difference with no borrow, with one, and of a number that is no larger
   pub sub-plain : bh ≤ ah → bl ≤ al → (ah - bh) * b + (al - bl) ≡ ah * b + al - (bh * b + bl)
   sub-plain h l =
       let s : ah ≡ ah - bh + bh = omega arith in
@@ -55,16 +65,7 @@ module _ (b ah al bh bl : ℕ) where
   pub sub-none : ah ≡ bh → al ≤ bl → 0 ≡ ah * b + al - (bh * b + bl)
   sub-none e l = omega (arith, ap (λ (x : ℕ). x * b) e)
 
--- two numbers with the same upper digit are the same where the lower ones are
-pub low-same : (b ah al bh bl : ℕ) → ah ≡ bh → eqb al bl ≡ eqb (ah * b + al) (bh * b + bl)
-low-same b ah al bh bl e =
-    let p = ap (λ (x : ℕ). x * b) e in
-    elim (ℕ-discrete al bl) [
-      | yes h ↦ eq-eqb al bl h ∙ sym (eq-eqb (ah * b + al) (bh * b + bl) (omega arith))
-      | no n ↦ ne-eqb al bl n ∙ sym (ne-eqb (ah * b + al) (bh * b + bl) (λ q. n (omega arith)))
-    ]
-
--- and never where the upper ones differ
+-- two numbers whose upper digits differ are not the same
 pub high-other : (b ah al bh bl : ℕ) → al < b → bl < b → ¬ (ah ≡ bh) → eqb (ah * b + al) (bh * b + bl) ≡ false
 high-other b ah al bh bl l k n = ne-eqb (ah * b + al) (bh * b + bl) (λ e. elim (decLt ah bh) [
   | yes h ↦ omega (arith, high-less b ah al bh bl h l)

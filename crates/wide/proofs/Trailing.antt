@@ -1,16 +1,16 @@
 -- The zero bits at a number's end say of which powers of two it is a multiple. Assumes nothing.
 use mathlib.Core.Path.{_≡_, refl, sym, ap, _∙_}
-use mathlib.Core.Logic.{_⊎_, inl, inr, _↔_}
+use mathlib.Core.Logic.{_↔_}
+use mathlib.Core.Bool.{true}
 use Prim.Native.Nat.{ℕ, zero, suc, _+_, _*_, _/_, _%_, _^_, _≤_, _<_, zero-le}
 use native.Mathlib.Nat.{le-refl, zero-mod, mod-eq-of-lt, add-zero, zero-add, add-suc, suc-add, mul-one, two-pow-succ}
 use native.Mathlib.Numerals.{add-one}
 use native.Mathlib.Omega.{arith}
+use native.Mathlib.Decide.{decLe, ℕ-discrete}
+use borrow.Author.Tests.{eq-eqb, ne-eqb}
 use lib.Count.{trailingZeros, under, trailing-le}
 use lib.Dec.{eqb}
 use lib.Pow.{mod-pow-add, pow-mono}
-use borrow.Author.Tests.{eq-eqb, ne-eqb}
-use native.Mathlib.Decide.{decLe, ℕ-discrete}
-use mathlib.Core.Bool.{true}
 use lib.Bits.{block-half, block-odd, shifted-half, shifted-even}
 use Rattle.wide.proofs.Aligned.{Aligned, aligned-mono, aligned-nothing}
 
@@ -30,15 +30,6 @@ aligned-trailing (suc W) n (suc j) l = go (n % 2) refl (aligned-trailing W (n / 
 
 pub trailing-aligned : (W n : ℕ) → Aligned (trailingZeros W n) n
 trailing-aligned W n = aligned-trailing W n (trailingZeros W n) (trailing-le W n) .1 (le-refl (trailingZeros W n))
-
--- the count is the one t for which n is a multiple of 2 ^ t and, where t is not the whole width, none of 2 ^ (t + 1)
-pub trailing-is : (W n t : ℕ) → t ≤ W → Aligned t n → (t ≡ W) ⊎ (¬ Aligned (suc t) n) → trailingZeros W n ≡ t
-trailing-is W n t l h top =
-    let up = aligned-trailing W n t l .0 h in
-    elim top [
-      | inl e ↦ omega (arith, trailing-le W n)
-      | inr not ↦ let down : ¬ (t < trailingZeros W n) = λ m. not (aligned-mono n m (trailing-aligned W n)) in omega arith
-    ]
 
 -- A number in two parts, the lower of k bits: its zeros are those of the lower part, or, where that is 0, k and those of the upper.
 pub trailing-lower : (m k hi lo : ℕ) → 0 < lo → lo < 2 ^ k → trailingZeros (m + k) (hi * 2 ^ k + lo) ≡ trailingZeros k lo

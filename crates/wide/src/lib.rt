@@ -36,27 +36,23 @@ impl Wide {
     pub fn less(self, other: Wide) -> bool
         ensures { λ r. ⌜ r ≡ ltb (value self) (value other) ⌝ }
     {
-        let ah = self.hi;
-        let al = self.lo;
-        let bh = other.hi;
-        let bl = other.lo;
-        if ah < bh {
+        if self.hi < other.hi {
             return true;
         }
-        if bh < ah {
+        if other.hi < self.hi {
             return false;
         }
-        al < bl
+        self.lo < other.lo
     }
 
     pub fn same(self, other: Wide) -> bool
         ensures { λ r. ⌜ r ≡ eqb (value self) (value other) ⌝ }
     {
-        let ah = self.hi;
-        let al = self.lo;
-        let bh = other.hi;
-        let bl = other.lo;
-        if ah == bh { al == bl } else { false }
+        if self.hi == other.hi {
+            self.lo == other.lo
+        } else {
+            false
+        }
     }
 
     // The sum, or the largest number of 128 bits where the sum has more.

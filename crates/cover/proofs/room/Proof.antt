@@ -3,11 +3,11 @@ use mathlib.Core.Path.{_≡_, sym, ap, _∙_}
 use Prim.Native.Nat.{ℕ, _+_, _-_, _<_, _^_, min}
 use native.Mathlib.Omega.{arith}
 use borrow.Author.Tests.{eqb-true, eqb-false}
+use borrow.Author.Needs.{needs}
 use lib.Dec.{lit<, lit≤}
 use Rattle.wide.specs.Value.{value, log2}
 use Rattle.wide.proofs.Greatest.{log2-is}
 use Rattle.wide.proofs.Halves.{value-lt}
-use borrow.Author.Needs.{needs}
 use Rattle.cover.proofs.room.Statement.{statement}
 use Rattle.cover.proofs.room.Tie as tie
 

@@ -1,13 +1,12 @@
 -- `address::Address::compare` meets its contract. Assumes nothing.
-use Rattle.address.proofs.AddressLaws.{order-apart, order-below, order-same, order-above}
+use mathlib.Core.Path.{_≡_, sym, ap₂, _∙_}
+use mathlib.Core.Bool.{Bool}
 use Prim.Native.Nat.{ℕ}
+use borrow.Author.Needs.{needs}
 use lib.Dec.{ltb, eqb}
 use Rattle.wide.specs.Value.{value}
-use mathlib.Core.Path.{_≡_, sym, ap, ap₂, _∙_}
-use mathlib.Core.Bool.{Bool, true, false}
-use borrow.Author.Tests.{eq-eqb, ne-eqb}
-use Rattle.address.specs.Addresses.{addressOrder, family, number}
-use borrow.Author.Needs.{needs}
+use Rattle.address.specs.Addresses.{family, number}
+use Rattle.address.proofs.AddressLaws.{order-apart, order-below, order-same, order-above}
 use Rattle.address.proofs.Address.compare.Statement.{statement}
 use Rattle.address.proofs.Address.compare.Tie as tie
 

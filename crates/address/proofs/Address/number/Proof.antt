@@ -1,8 +1,8 @@
 -- `address::Address::number` meets its contract. Assumes nothing.
 use mathlib.Core.Path.{sym, ap, _∙_}
 use native.Mathlib.Nat.{zero-add}
-use Rattle.address.specs.Addresses.{number}
 use borrow.Author.Needs.{needs}
+use Rattle.address.specs.Addresses.{number}
 use Rattle.address.proofs.Address.number.Statement.{statement}
 use Rattle.address.proofs.Address.number.Tie as tie
 

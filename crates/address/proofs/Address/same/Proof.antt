@@ -1,8 +1,8 @@
 -- `address::Address::same` meets its contract. Assumes nothing.
-use mathlib.Core.Path.{_≡_, sym, ap, ap₂, _∙_}
+use mathlib.Core.Path.{sym, ap₂, _∙_}
+use borrow.Author.Needs.{needs}
 use lib.Dec.{eqb}
 use Rattle.address.specs.Addresses.{sameAddress}
-use borrow.Author.Needs.{needs}
 use Rattle.address.proofs.Address.same.Statement.{statement}
 use Rattle.address.proofs.Address.same.Tie as tie
 

@@ -1,11 +1,10 @@
 -- `address::Block::check` meets its contract. Assumes nothing.
-use mathlib.Core.Path.{_≡_, sym, ap, ap₂, _∙_}
-use mathlib.Core.Bool.{Bool}
-use Prim.Native.Nat.{ℕ, _-_, _%_, _≤_, _<_, _^_}
+use mathlib.Core.Path.{_≡_, sym, ap₂, _∙_}
+use Prim.Native.Nat.{ℕ, _-_, _%_, _≤_, _^_}
+use borrow.Author.Needs.{needs}
 use lib.Dec.{eqb}
 use Rattle.address.specs.Addresses.{width, number}
 use Rattle.address.proofs.BlockLaws.{refusal-length, refusal-bits, refusal-none}
-use borrow.Author.Needs.{needs}
 use Rattle.address.proofs.Block.check.Statement.{statement}
 use Rattle.address.proofs.Block.check.Tie as tie
 

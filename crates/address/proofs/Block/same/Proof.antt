@@ -1,9 +1,9 @@
 -- `address::Block::same` meets its contract. Assumes nothing.
-use mathlib.Core.Path.{_≡_, sym, ap, ap₂, _∙_}
+use mathlib.Core.Path.{_≡_, sym, _∙_}
 use mathlib.Core.Bool.{true, false}
 use borrow.Author.Tests.{not-true, not-false}
-use Rattle.address.specs.Addresses.{sameAddress}
 use borrow.Author.Needs.{needs}
+use Rattle.address.specs.Addresses.{sameAddress}
 use Rattle.address.proofs.Block.same.Statement.{statement}
 use Rattle.address.proofs.Block.same.Tie as tie
 

@@ -2,11 +2,11 @@
 use mathlib.Core.Path.{_≡_, sym, ap, ap₂, _∙_}
 use Prim.Native.Nat.{ℕ, _+_, _*_, _^_}
 use native.Mathlib.Omega.{arith}
+use borrow.Author.Needs.{needs}
 use lib.ListN.{length, take, drop, length-drop}
 use lib.Seq.{length-take-le, take-add, drop-drop}
 use Rattle.octets.specs.BigEndian.{numberOf}
 use Rattle.octets.proofs.DigitLaws.{number-append}
-use borrow.Author.Needs.{needs}
 use Rattle.octets.proofs.bytes.eight.Statement.{statement}
 use Rattle.octets.proofs.bytes.eight.Tie as tie
 

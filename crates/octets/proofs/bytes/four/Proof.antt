@@ -1,9 +1,8 @@
 -- `octets::bytes::four` meets its contract. Assumes nothing.
-use Prim.Native.Nat.{ℕ, _+_}
-use mathlib.Core.Path.{_≡_, sym, ap, _∙_}
+use mathlib.Core.Path.{sym, ap, _∙_}
+use borrow.Author.Needs.{needs}
 use Rattle.octets.specs.BigEndian.{numberOf}
 use Rattle.octets.proofs.DigitLaws.{take-four, four-number}
-use borrow.Author.Needs.{needs}
 use Rattle.octets.proofs.bytes.four.Statement.{statement}
 use Rattle.octets.proofs.bytes.four.Tie as tie
 

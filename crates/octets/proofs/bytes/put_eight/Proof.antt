@@ -1,15 +1,14 @@
 -- `octets::bytes::put_eight` meets its contract. Assumes nothing.
-use mathlib.Core.Path.{_≡_, sym, ap, ap₂, _∙_}
+use mathlib.Core.Path.{sym, ap, _∙_}
 use mathlib.Core.List.{_++_}
-use Prim.Native.Nat.{_+_, _*_, _/_, _%_, _^_, _<_}
+use Prim.Native.Nat.{_+_, _/_, _%_, _<_}
 use native.Mathlib.Nat.{mod-lt, div-add-mod'}
-use native.Mathlib.Omega.{arith}
+use borrow.Author.Needs.{needs}
 use lib.Dec.{lit<}
 use lib.ListN.{drop}
+use Rattle.address.proofs.BufferLaws.{put-behind}
 use Rattle.octets.specs.BigEndian.{digitsOf}
 use Rattle.octets.proofs.DigitLaws.{digits-split, digits-length}
-use Rattle.address.proofs.BufferLaws.{put-behind}
-use borrow.Author.Needs.{needs}
 use Rattle.octets.proofs.bytes.put_eight.Statement.{statement}
 use Rattle.octets.proofs.bytes.put_eight.Tie as tie
 

@@ -1,13 +1,13 @@
 -- `octets::bytes::put_four` meets its contract. Assumes nothing.
-use mathlib.Core.Path.{_≡_, sym, ap, ap₂, _∙_}
+use mathlib.Core.Path.{sym, ap, _∙_}
 use mathlib.Core.List.{[], _∷_, _++_}
 use Prim.Native.Nat.{_/_, _%_, _^_, _<_}
 use native.Mathlib.Omega.{arith}
+use borrow.Author.Needs.{needs}
 use lib.Dec.{lit<}
 use lib.ListN.{drop, length-set}
 use lib.Seq.{sets-eq}
 use Rattle.octets.proofs.DigitLaws.{four-digits}
-use borrow.Author.Needs.{needs}
 use Rattle.octets.proofs.bytes.put_four.Statement.{statement}
 use Rattle.octets.proofs.bytes.put_four.Tie as tie
 

@@ -1,16 +1,6 @@
 -- `octets::bytes::read_octets` meets its contract. Assumes nothing.
-use native.Mathlib.Omega.{arith}
-use lib.ListN.{length-drop}
-use Rattle.address.specs.declared.Address.the-variants.{V4, V6}
-use Rattle.address.specs.Answers.{Answer}
-use Rattle.octets.specs.BigEndian.{numberOf}
-use Rattle.octets.proofs.OctetLaws.{read-4, read-6, read-other}
-use mathlib.Core.Path.{_≡_, sym, ap, ap₂, _∙_}
-use borrow.Author.Tests.{eq-eqb, ne-eqb}
-use lib.ListN.{length, take, drop}
-use lib.Seq.{take-all}
-use Rattle.octets.specs.Octets.{octetsAnswer}
 use borrow.Author.Needs.{needs}
+use Rattle.octets.proofs.OctetLaws.{read-4, read-6, read-other}
 use Rattle.octets.proofs.bytes.read_octets.Statement.{statement}
 use Rattle.octets.proofs.bytes.read_octets.Tie as tie
 

@@ -1,21 +1,19 @@
 -- `octets::bytes::write_octets` meets its contract. Assumes nothing.
-use Prim.Native.Nat.{ℕ, _/_}
+use mathlib.Core.Path.{_≡_, sym, ap, _∙_}
+use mathlib.Core.List.{_++_}
+use Prim.Native.Nat.{_/_, _^_, _<_}
+use native.Mathlib.Omega.{arith}
+use borrow.Author.Needs.{needs}
+use lib.ListN.{length, drop}
 use Rattle.address.specs.declared.Address.{Address}
 use Rattle.address.specs.declared.Address.the-variants.{V4, V6}
 use Rattle.address.specs.Addresses.{width}
-use mathlib.Core.Path.{_≡_, sym, ap, ap₂, _∙_}
-use mathlib.Core.List.{[], _++_}
-use Prim.Native.Nat.{_^_, _≤_, _<_}
-use native.Mathlib.Omega.{arith}
-use lib.ListN.{length, drop}
-use Rattle.address.specs.Answers.{writeAnswer, writeLeaves}
+use Rattle.address.proofs.BufferLaws.{put-behind}
+use Rattle.address.proofs.AnswerLaws.{write-short, write-fits}
 use Rattle.octets.specs.Octets.{octets}
 use Rattle.octets.specs.BigEndian.{digitsOf}
 use Rattle.octets.proofs.DigitLaws.{digits-length}
-use Rattle.address.proofs.BufferLaws.{put-behind}
-use Rattle.address.proofs.AnswerLaws.{short-answer, short-leaves, fits-answer, fits-leaves}
 use Rattle.octets.proofs.OctetLaws.{octets-4, octets-6, octets-length}
-use borrow.Author.Needs.{needs}
 use Rattle.octets.proofs.bytes.write_octets.Statement.{statement}
 use Rattle.octets.proofs.bytes.write_octets.Tie as tie
 
@@ -30,7 +28,7 @@ returns : tie.Need-returns
 returns c =
     let s = c .before .before .before .before .before in
     let l = count (s .args .address) (V4 _) (c .before .before .address .given .1) in
-    (short-answer _ _ 4 l (c .if1 .taken), short-leaves _ _ 4 l (c .if1 .taken))
+    write-short _ _ 4 l (c .if1 .taken)
 
 put-four-requires : tie.Need-put-four-requires
 put-four-requires c κs = search needs
@@ -42,7 +40,7 @@ returns-2 : tie.Need-returns-2
 returns-2 c =
     let s = c .before .before .before .before .before in
     let l = count (s .args .address) (V6 _ _) (c .before .before .address2 .given .1) in
-    (short-answer _ _ 16 l (c .if2 .taken), short-leaves _ _ 16 l (c .if2 .taken))
+    write-short _ _ 16 l (c .if2 .taken)
 
 put-eight-requires : tie.Need-put-eight-requires
 put-eight-requires c κs = search needs
@@ -67,10 +65,9 @@ returns-3 c =
     let d = c .before .before .before .before in
     let s = d .before .before .before .before .before in
     let e = d .before .before .address .given .1 in
-    let l = count (s .args .address) (V4 _) e in (
-      fits-answer _ _ 4 l (d .if1 .left),
-      c .before .before .put-four .ensures ∙ ap (λ bs. bs ++ drop 4 (s .args .out .now)) (sym (ap octets e ∙ octets-4 _)) ∙ fits-leaves _ _ 4 l (d .if1 .left),
-    )
+    let l = count (s .args .address) (V4 _) e in
+    write-fits _ _ 4 l (d .if1 .left) _
+    (c .before .before .put-four .ensures ∙ ap (λ bs. bs ++ drop 4 (s .args .out .now)) (sym (ap octets e ∙ octets-4 _)))
 
 same-length-2 : tie.Need-same-length-2
 same-length-2 c = search needs
@@ -86,11 +83,11 @@ returns-4 c =
     let small : lo < 2 ^ 64 = omega (arith, d .before) in
     let l = count (s .args .address) (V6 hi lo) (given .1) in
     let one = c .before .before .before .before .before .before .put-eight in
-    let two = c .before .before .put-eight2 in (
-      fits-answer _ _ 16 l (d .if2 .left),
-      put-behind 8 8 old (one .last .1 .0) (two .last .1 .0) (digitsOf 256 8 hi) (digitsOf 256 8 lo) (digits-length 256 8 hi) (one .ensures) (two .ensures)
-          ∙ ap (λ bs. bs ++ drop 16 old) (sym (ap octets (given .1) ∙ octets-6 hi lo small))
-          ∙ fits-leaves _ _ 16 l (d .if2 .left),
+    let two = c .before .before .put-eight2 in
+    write-fits _ _ 16 l (d .if2 .left) _
+    (
+    put-behind 8 8 old (one .last .1 .0) (two .last .1 .0) (digitsOf 256 8 hi) (digitsOf 256 8 lo) (digits-length 256 8 hi) (one .ensures) (two .ensures)
+    ∙ ap (λ bs. bs ++ drop 16 old) (sym (ap octets (given .1) ∙ octets-6 hi lo small))
     )
 
 pub write-octets-spec : {M : Type 1} → statement M

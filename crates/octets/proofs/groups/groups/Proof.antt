@@ -1,12 +1,12 @@
 -- `octets::groups::groups` meets its contract: four digits of each half. Assumes nothing.
-use mathlib.Core.Path.{_≡_, sym, ap₂, _∙_}
+use mathlib.Core.Path.{sym, ap₂, _∙_}
 use mathlib.Core.List.{_++_}
 use Prim.Native.Nat.{_<_, _^_}
 use native.Mathlib.Omega.{arith}
+use borrow.Author.Needs.{needs}
 use lib.Dec.{lit<}
 use Rattle.octets.specs.Octets.{groupsOf}
 use Rattle.octets.proofs.DigitLaws.{digits-split, four-digits}
-use borrow.Author.Needs.{needs}
 use Rattle.octets.proofs.groups.groups.Statement.{statement}
 use Rattle.octets.proofs.groups.groups.Tie as tie
 

@@ -1,6 +1,5 @@
 -- `wide::Wide::saturating_add` meets its contract: the lower halves carry 0 or 1, and the upper ones then fit or do not. Assumes nothing.
-use mathlib.Core.Path.{_≡_}
-use Prim.Native.Nat.{_+_, _*_, _<_, _≤_, _^_}
+use Prim.Native.Nat.{_^_}
 use native.Mathlib.Omega.{arith}
 use borrow.Author.Needs.{needs}
 use Rattle.wide.proofs.Halves.{add-fits, add-full}
@@ -15,9 +14,7 @@ sub-room c = search needs
 
 returns : tie.Need-returns
 returns c =
-    let a = c .before .before .before .args .self in
-    let b = c .before .before .before .args .other in
-    add-full (2 ^ 64) (a .hi) (a .lo) (b .hi) (b .lo) 1 18446744073709551615 (omega arith) (omega arith) (omega arith)
+    add-full (2 ^ 64) _ _ _ _ 1 18446744073709551615 (omega arith) (omega arith) (omega arith)
 
 add-t11 : tie.Need-add-t11
 add-t11 c = search needs
@@ -27,24 +24,18 @@ add-t12 c = search needs
 
 returns-2 : tie.Need-returns-2
 returns-2 c =
-    let a = c .before .before .before .args .self in
-    let b = c .before .before .before .args .other in
-    add-fits (2 ^ 64) (a .hi) (a .lo) (b .hi) (b .lo) 1 _ _ (omega arith) (omega arith) (omega arith) (omega arith)
+    add-fits (2 ^ 64) _ _ _ _ 1 _ _ (omega arith) (omega arith) (omega arith) (omega arith)
 
 returns-3 : tie.Need-returns-3
 returns-3 c =
-    let a = c .before .before .before .args .self in
-    let b = c .before .before .before .args .other in
-    add-full (2 ^ 64) (a .hi) (a .lo) (b .hi) (b .lo) 0 18446744073709551615 (omega arith) (omega arith) (omega arith)
+    add-full (2 ^ 64) _ _ _ _ 0 18446744073709551615 (omega arith) (omega arith) (omega arith)
 
 add-t13 : tie.Need-add-t13
 add-t13 c = search needs
 
 returns-4 : tie.Need-returns-4
 returns-4 c =
-    let a = c .before .before .before .args .self in
-    let b = c .before .before .before .args .other in
-    add-fits (2 ^ 64) (a .hi) (a .lo) (b .hi) (b .lo) 0 _ _ (omega arith) (omega arith) (omega arith) (omega arith)
+    add-fits (2 ^ 64) _ _ _ _ 0 _ _ (omega arith) (omega arith) (omega arith) (omega arith)
 
 pub saturating-add-spec : {M : Type 1} → statement M
 saturating-add-spec =

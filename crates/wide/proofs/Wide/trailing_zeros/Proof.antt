@@ -1,6 +1,6 @@
 -- `wide::Wide::trailing_zeros` meets its contract: the zeros are those of the lower half, or 64 and those of the upper. Assumes nothing.
-use mathlib.Core.Path.{_≡_, sym, _∙_}
-use Prim.Native.Nat.{_+_, _*_, _<_, _^_}
+use mathlib.Core.Path.{sym}
+use Prim.Native.Nat.{_<_, _^_}
 use native.Mathlib.Nat.{add-zero}
 use native.Mathlib.Omega.{arith}
 use lib.Count.{trailing-le}
