@@ -1,6 +1,7 @@
 -- Answers and refusals (01, "Why a call says no"). Assumes nothing.
 use mathlib.Core.Bool.{Bool, true, false, cond}
 use mathlib.Core.List.{List, [], _∷_, _++_}
+use mathlib.Core.Option.{Option, some, none, Option·getD}
 use Prim.Native.Nat.{ℕ}
 use lib.Dec.{eqb, ltb}
 use lib.ListN.{length, drop}
@@ -55,16 +56,16 @@ pub record Answer (A : Type 0) : Type 0 where
   pub number : ℕ
   pub fields : A
 
--- What the rules answer: "A refusal returns its number with every other field zero." `none` are the fields at zero.
+-- What the rules answer: "A refusal returns its number with every other field zero." `zeros` are the fields at zero.
 abbrev pub answer : {A : Type 0} → A → ℕ → A → Answer A
-answer none n fields = record { number = n; fields = cond (eqb n 0) fields none }
+answer zeros n fields = record { number = n; fields = cond (eqb n 0) fields zeros }
 
 -- what the code answers: the fields, or a refusal
 abbrev pub gives : {A : Type 0} → A → Answer A
 gives fields = record { number = 0; fields = fields }
 
 abbrev pub refuses : {A : Type 0} → A → Refusal → Answer A
-refuses none e = record { number = refusalNumber e; fields = none }
+refuses zeros e = record { number = refusalNumber e; fields = zeros }
 
 -- "an address field is 0.0.0.0"
 abbrev pub noAddress : Address
@@ -92,6 +93,17 @@ blockAnswer (block.Refused e) = refuses noBlock e
 abbrev pub checkNumber : Check → ℕ
 checkNumber check.Valid = 0
 checkNumber (check.Refused e) = refusalNumber e
+
+-- ---- texts
+
+abbrev pub missing : {A : Type 0} → Option A → Bool
+missing none = true
+missing (some a) = false
+
+-- What a reader of text answers, from what the text means: 2 where it has no meaning of the form asked for, or another reason.
+unfoldable pub readAnswer : {A : Type 0} → A → List (ℕ × Bool) → Option A → Answer A
+unfolding refusal
+readAnswer zeros reasons meaning = answer zeros (refusal ((2, missing meaning) ∷ reasons)) (Option·getD meaning zeros)
 
 -- ---- lent buffers
 

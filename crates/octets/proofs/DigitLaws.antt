@@ -82,17 +82,28 @@ module _ (base : ℕ) (pos : 0 < base) where
       ∙ digits-split 1 (length ds) d (numberOf base ds) (number-lt base ds (h .1))
       ∙ ap₂ _∷_ (mod-eq-of-lt (h .0)) (number-digits ds (h .1))
 
--- ---- numbers in two halves of n digits each
+-- ---- lists of digits
 
-below-take : (base n : ℕ) (ds : List ℕ) → AllBelow base ds → AllBelow base (take n ds)
+pub below-append : (base : ℕ) (ds es : List ℕ) → AllBelow base ds → AllBelow base es → AllBelow base (ds ++ es)
+below-append base [] es h k = k
+below-append base (d ∷ ds) es h k = (h .0, below-append base ds es (h .1) k)
+
+pub digits-below : (base : ℕ) → 0 < base → (n x : ℕ) → AllBelow base (digitsOf base n x)
+unfolding digitsOf
+digits-below base pos zero x = tt
+digits-below base pos (suc n) x = below-append base (digitsOf base n (x / base)) ((x % base) ∷ []) (digits-below base pos n (x / base)) (mod-lt x pos, tt)
+
+pub below-take : (base n : ℕ) (ds : List ℕ) → AllBelow base ds → AllBelow base (take n ds)
 below-take base zero ds h = tt
 below-take base (suc n) [] h = tt
 below-take base (suc n) (d ∷ ds) h = (h .0, below-take base n ds (h .1))
 
-below-drop : (base n : ℕ) (ds : List ℕ) → AllBelow base ds → AllBelow base (drop n ds)
+pub below-drop : (base n : ℕ) (ds : List ℕ) → AllBelow base ds → AllBelow base (drop n ds)
 below-drop base zero ds h = h
 below-drop base (suc n) [] h = tt
 below-drop base (suc n) (d ∷ ds) h = below-drop base n ds (h .1)
+
+-- ---- numbers in two halves of n digits each
 
 module _ (base n : ℕ) (pos : 0 < base) where
   -- the digits of two halves give the halves back
