@@ -1,0 +1,288 @@
+-- Decimal parts and groups of hex digits at the start of a text. Assumes nothing.
+use mathlib.Core.Path.{_≡_, refl, sym, ap, subst, _∙_}
+use mathlib.Core.Bool.{Bool, true, false, cond, _&&_, _||_}
+use mathlib.Core.List.{List, [], _∷_, map}
+use mathlib.Core.Option.{Option, some, none}
+use Prim.Native.Nat.{ℕ, zero, suc, _+_, _-_, _*_, _^_, _≤_, _<_}
+use native.Mathlib.Nat.{add-zero, pow-le-pow-right}
+use native.Mathlib.Decide.{decLe}
+use native.Mathlib.Omega.{arith}
+use borrow.Author.Tests.{lt-ltb, le-ltb, lt-leb, le-leb, eq-eqb, ne-eqb, ltb-true, leb-true}
+use lib.Dec.{ltb, leb, eqb}
+use lib.ListN.{length, take, drop, getD, length-map, length-drop, drop-of-length-le}
+use lib.Seq.{drop-cons, getD-drop, length-take-le}
+use Rattle.octets.specs.BigEndian.{AllBelow, numberOf}
+use Rattle.octets.proofs.DigitLaws.{number-lt}
+use Rattle.digits.specs.declared.read.Leading.the-variants.{Number, Nothing}
+use Rattle.digits.specs.Numerals.{within, digitOf, allDigits, textNumber, atMost, boundedNumber, leadingZero, partOf, groupOf, digitCount, decimalOf, asLeading, leading}
+use Rattle.digits.proofs.LeadingLaws.{Scan, scan-start, scan-more, scan-stop, lead-number, lead-empty, count-le}
+
+-- ---- decimal digits
+
+and-left : (x y : Bool) → (x && y) ≡ true → x ≡ true
+and-left true y e = refl
+and-left false y e = e
+
+and-right : (x y : Bool) → (x && y) ≡ true → y ≡ true
+and-right true y e = e
+and-right false y e = let z : _≡_ {A = ℕ} 0 1 = cc in absurd (omega arith)
+
+within-from : (a b c : ℕ) → within a b c ≡ true → a ≤ c
+within-from a b c e = leb-true a c (and-left (leb a c) (leb c b) e)
+
+digit-inside : (c : ℕ) → within 48 57 c ≡ true → digitOf c ≡ c - 48
+unfolding digitOf
+digit-inside c e = rw e
+
+-- letters, and bytes that are no digits, count ten or more
+digit-outside : (c : ℕ) → within 48 57 c ≡ false → 10 ≤ digitOf c
+unfolding digitOf
+digit-outside c e = rw e (upper (within 65 70 c) refl)
+  where
+    lower : (b : Bool) → within 97 102 c ≡ b → 10 ≤ cond b (c - 87) 16
+    lower true e = omega (arith, within-from 97 102 c e)
+    lower false e = omega arith
+
+    upper : (b : Bool) → within 65 70 c ≡ b → 10 ≤ cond b (c - 55) (cond (within 97 102 c) (c - 87) 16)
+    upper true e = omega (arith, within-from 65 70 c e)
+    upper false e = lower (within 97 102 c) refl
+
+pub digit-zero : (c : ℕ) → digitOf c < 1 → c ≡ 48
+digit-zero c h = go (within 48 57 c) refl
+  where
+    go : (b : Bool) → within 48 57 c ≡ b → c ≡ 48
+    go true e = omega (arith, digit-inside c e, within-from 48 57 c e)
+    go false e = absurd (omega (arith, digit-outside c e))
+
+decimal-yes : (c : ℕ) (t : List ℕ) → within 48 57 c ≡ true → c ≤ 57 → decimalOf (c ∷ t) ≡ c - 48
+unfolding decimalOf
+decimal-yes c t e h = let d = digit-inside c e in let less : digitOf c < 10 = omega (arith, d) in rw (lt-ltb (digitOf c) 10 less) d
+
+decimal-no : (c : ℕ) (t : List ℕ) → within 48 57 c ≡ false → decimalOf (c ∷ t) ≡ 32
+unfolding decimalOf
+decimal-no c t e = rw (le-ltb (digitOf c) 10 (digit-outside c e))
+
+module _ (t : List ℕ) (i : ℕ) where
+  pub decimal-end : length t ≤ i → 32 ≡ decimalOf (drop i t)
+  unfolding decimalOf
+  decimal-end h = rw (drop-of-length-le t h)
+
+  pub decimal-digit : i < length t → 48 ≤ getD t i 0 → getD t i 0 ≤ 57 → getD t i 0 - 48 ≡ decimalOf (drop i t)
+  decimal-digit h a b = rw (drop-cons t i 0) (sym (decimal-yes (getD t i 0) (drop (suc i) t) (rw (le-leb 48 (getD t i 0) a, le-leb (getD t i 0) 57 b)) b))
+
+  pub decimal-below : i < length t → getD t i 0 < 48 → 32 ≡ decimalOf (drop i t)
+  decimal-below h a = rw (drop-cons t i 0) (sym (decimal-no (getD t i 0) (drop (suc i) t) (rw (lt-leb 48 (getD t i 0) a))))
+
+  pub decimal-above : i < length t → 57 < getD t i 0 → 32 ≡ decimalOf (drop i t)
+  decimal-above h a =
+      let over : within 48 57 (getD t i 0) ≡ false = rw (le-leb 48 (getD t i 0) (omega arith), lt-leb (getD t i 0) 57 a) in
+      rw (drop-cons t i 0) (sym (decimal-no (getD t i 0) (drop (suc i) t) over))
+
+-- what a text that begins with a digit begins with
+starts : (t : List ℕ) → decimalOf t ≤ 9 → (0 < length t) × (digitOf (getD t 0 0) ≡ decimalOf t) × (digitOf (getD t 0 0) < 10)
+unfolding decimalOf
+starts [] h = absurd (omega arith)
+starts (c ∷ t) h = go (ltb (digitOf c) 10) refl h
+  where
+    go : (b : Bool) → ltb (digitOf c) 10 ≡ b → cond b (digitOf c) 32 ≤ 9 → (0 < suc (length t)) × (digitOf c ≡ cond b (digitOf c) 32) × (digitOf c < 10)
+    go true e h = (omega arith, refl, ltb-true (digitOf c) 10 e)
+    go false e h = absurd (omega arith)
+
+pub decimal-most : (t : List ℕ) → decimalOf t ≤ 32
+unfolding decimalOf
+decimal-most [] = omega arith
+decimal-most (c ∷ t) = go (ltb (digitOf c) 10) refl
+  where
+    go : (b : Bool) → ltb (digitOf c) 10 ≡ b → cond b (digitOf c) 32 ≤ 32
+    go true e = omega (arith, ltb-true (digitOf c) 10 e)
+    go false e = omega arith
+
+decimal-small : (t : List ℕ) → decimalOf t < 32 → decimalOf t ≤ 9
+unfolding decimalOf
+decimal-small [] h = absurd (omega arith)
+decimal-small (c ∷ t) h = go (ltb (digitOf c) 10) refl h
+  where
+    go : (b : Bool) → ltb (digitOf c) 10 ≡ b → cond b (digitOf c) 32 < 32 → cond b (digitOf c) 32 ≤ 9
+    go true e h = omega (arith, ltb-true (digitOf c) 10 e)
+    go false e h = absurd (omega arith)
+
+not-zero : (t : List ℕ) → 1 ≤ decimalOf t → getD t 0 0 ≡ 48 → ⊥
+unfolding decimalOf digitOf
+not-zero [] h e = omega arith
+not-zero (c ∷ t) h e = omega (arith, ap (λ x. decimalOf (x ∷ t)) e)
+
+no-start : (t : List ℕ) → 9 < decimalOf t → digitCount 10 t ≡ 0
+unfolding decimalOf digitCount
+no-start [] h = refl
+no-start (c ∷ t) h = go (ltb (digitOf c) 10) refl h
+  where
+    go : (b : Bool) → ltb (digitOf c) 10 ≡ b → 9 < cond b (digitOf c) 32 → cond b (suc (digitCount 10 t)) 0 ≡ 0
+    go true e h = absurd (omega (arith, ltb-true (digitOf c) 10 e))
+    go false e h = refl
+
+-- ---- decimal parts
+
+or-true : (x : Bool) → (x || true) ≡ true
+or-true true = refl
+or-true false = refl
+
+zero-long : (n : ℕ) (t : List ℕ) → 2 ≤ n → n ≤ length t → leadingZero (take n t) ≡ eqb (getD t 0 0) 48
+unfolding leadingZero
+zero-long zero t h l = absurd (omega arith)
+zero-long (suc zero) t h l = absurd (omega arith)
+zero-long (suc (suc n)) [] h l = absurd (omega arith)
+zero-long (suc (suc n)) (c ∷ []) h l = absurd (omega arith)
+zero-long (suc (suc n)) (c ∷ d ∷ t) h l = refl
+
+zero-short : (n : ℕ) (t : List ℕ) → n ≤ 1 → leadingZero (take n t) ≡ false
+unfolding leadingZero
+zero-short zero t h = refl
+zero-short (suc zero) [] h = refl
+zero-short (suc zero) (c ∷ t) h = refl
+zero-short (suc (suc n)) t h = absurd (omega arith)
+
+module _ (t : List ℕ) where
+  pub decimal-more : (v i : ℕ) → Scan 10 t v i → decimalOf (drop i t) ≤ 9 → Scan 10 t (v * 10 + decimalOf (drop i t)) (i + 1)
+  decimal-more v i s h =
+      let st = starts (drop i t) h in
+      let at : getD (drop i t) 0 0 ≡ getD t i 0 = getD-drop i t 0 0 ∙ ap (λ k. getD t k 0) (add-zero i) in
+      let long : i < length t = omega (arith, st .0, length-drop i t) in
+      subst (λ d. Scan 10 t (v * 10 + d) (i + 1)) (ap digitOf (sym at) ∙ st .1) (scan-more 10 t v i s long (omega (arith, st .2, ap digitOf at)))
+
+  pub decimal-first : decimalOf t ≤ 9 → Scan 10 t (decimalOf t) 1
+  decimal-first h = let e : 0 * 10 + decimalOf t ≡ decimalOf t = omega arith in subst (λ v. Scan 10 t v 1) e (decimal-more 0 0 (scan-start 10 t) h)
+
+  pub decimal-count : (v i : ℕ) → Scan 10 t v i → i ≤ digitCount 10 t
+  decimal-count v i s = omega (arith, s .count)
+
+  no-zero : (v i : ℕ) → Scan 10 t v i → 1 ≤ i → (2 ≤ i → 1 ≤ decimalOf t) → digitCount 10 t ≡ i → leadingZero (take (digitCount 10 t) t) ≡ false
+  no-zero v i s p first e = elim (decLe i 1) [
+    | yes h ↦ zero-short (digitCount 10 t) t (omega (arith, e))
+    | no n ↦
+        zero-long (digitCount 10 t) t (omega (arith, e)) (count-le 10 t) ∙ ne-eqb (getD t 0 0) 48 (not-zero t (first (omega arith)))
+  ]
+
+  module _ (most : ℕ) where
+    pub part-none : 9 < decimalOf t → Nothing ≡ leading 10 (partOf most) t
+    unfolding partOf
+    part-none h = lead-empty 10 t (partOf most) refl (no-start t h)
+
+    refused : leadingZero (take (digitCount 10 t) t) || ltb 3 (length (take (digitCount 10 t) t)) ≡ true → Nothing ≡ leading 10 (partOf most) t
+    unfolding leading partOf
+    refused e = sym (rw e)
+
+    pub part-number : (v i : ℕ) → Scan 10 t v i → 9 < decimalOf (drop i t) → 1 ≤ i → i ≤ 3 → (2 ≤ i → 1 ≤ decimalOf t) → asLeading (atMost most (some v)) i ≡ leading 10 (partOf most) t
+    unfolding leading partOf
+    part-number v i s z p q first =
+        let st = scan-stop 10 t v i s (no-start (drop i t) z) in
+        let long = length-take-le (digitCount 10 t) t (count-le 10 t) in
+        let number : textNumber 10 (take (digitCount 10 t) t) ≡ some v = lead-number 10 t (omega (arith, st .0)) ∙ ap some (st .1) in
+        let allowed : (leadingZero (take (digitCount 10 t) t) || ltb 3 (length (take (digitCount 10 t) t))) ≡ false = rw (no-zero v i s p first (st .0), le-ltb 3 (length (take (digitCount 10 t) t)) (omega (arith, long, st .0))) in
+        sym (rw (allowed, number, st .0))
+
+    -- one, two and three digits, as the code reads them
+    module _ (a : ℕ) (ea : a ≡ decimalOf t) (la : a ≤ 9) where
+      one : Scan 10 t a 1
+      one = subst (λ v. Scan 10 t v 1) (sym ea) (decimal-first (omega (arith, ea)))
+
+      pub part-one : 9 < decimalOf (drop 1 t) → asLeading (atMost most (some a)) 1 ≡ leading 10 (partOf most) t
+      part-one z = part-number a 1 one z (omega arith) (omega arith) (λ h. absurd (omega arith))
+
+      module _ (b : ℕ) (eb : b ≡ decimalOf (drop 1 t)) (lb : b ≤ 9) where
+        two : Scan 10 t (a * 10 + b) 2
+        two = subst (λ d. Scan 10 t (a * 10 + d) 2) (sym eb) (decimal-more a 1 one (omega (arith, eb)))
+
+        pub part-zero : a < 1 → Nothing ≡ leading 10 (partOf most) t
+        part-zero z =
+            let st = starts t (omega (arith, ea)) in
+            refused (rw (zero-long (digitCount 10 t) t (decimal-count (a * 10 + b) 2 two) (count-le 10 t), eq-eqb (getD t 0 0) 48 (digit-zero (getD t 0 0) (omega (arith, st .1, ea)))))
+
+        module _ (pos : 1 ≤ a) where
+          part-two : 9 < decimalOf (drop 2 t) → asLeading (atMost most (some (a * 10 + b))) 2 ≡ leading 10 (partOf most) t
+          part-two z = part-number (a * 10 + b) 2 two z (omega arith) (omega arith) (λ h. omega (arith, ea))
+
+          module _ (c : ℕ) (ec : c ≡ decimalOf (drop 2 t)) (lc : c ≤ 9) where
+            three : Scan 10 t ((a * 10 + b) * 10 + c) 3
+            three = subst (λ d. Scan 10 t ((a * 10 + b) * 10 + d) 3) (sym ec) (decimal-more (a * 10 + b) 2 two (omega (arith, ec)))
+
+            part-three : 9 < decimalOf (drop 3 t) → asLeading (atMost most (some ((a * 10 + b) * 10 + c))) 3 ≡ leading 10 (partOf most) t
+            part-three z = part-number ((a * 10 + b) * 10 + c) 3 three z (omega arith) (omega arith) (λ h. omega (arith, ea))
+
+            part-long : decimalOf (drop 3 t) ≤ 9 → Nothing ≡ leading 10 (partOf most) t
+            part-long l =
+                let more = decimal-count _ 4 (decimal-more ((a * 10 + b) * 10 + c) 3 three l) in
+                let long = lt-ltb 3 (length (take (digitCount 10 t) t)) (omega (arith, more, length-take-le (digitCount 10 t) t (count-le 10 t))) in
+                refused (ap (λ b. leadingZero (take (digitCount 10 t) t) || b) long ∙ or-true (leadingZero (take (digitCount 10 t) t)))
+
+          -- two or three of them: no digit adds up to 32 with another
+          module _ (c : ℕ) (ec : c ≡ decimalOf (drop 2 t)) (d : ℕ) (ed : d ≡ decimalOf (drop 3 t)) where
+            pub part-four : c + d < 32 → Nothing ≡ leading 10 (partOf most) t
+            part-four h = part-long c ec (omega (arith, ec, decimal-small (drop 2 t) (omega (arith, ec)))) (decimal-small (drop 3 t) (omega (arith, ed)))
+
+            pub part-more : 32 ≤ c + d → asLeading (atMost most (some (cond (leb c 9) ((a * 10 + b) * 10 + c) (a * 10 + b)))) (cond (leb c 9) 3 2) ≡ leading 10 (partOf most) t
+            part-more h = elim (decLe c 9) [
+              | yes l ↦ rw (le-leb c 9 l) (part-three c ec l (omega (arith, ed)))
+              | no n ↦ rw (lt-leb c 9 (omega arith)) (part-two (omega (arith, ec)))
+            ]
+
+-- ---- groups
+
+digits-below : (base : ℕ) (t : List ℕ) → allDigits base t ≡ true → AllBelow base (map digitOf t)
+unfolding allDigits
+digits-below base [] e = tt
+digits-below base (c ∷ t) e = (ltb-true (digitOf c) base (and-left (ltb (digitOf c) base) (allDigits base t) e), digits-below base t (and-right (ltb (digitOf c) base) (allDigits base t) e))
+
+-- n digits write less than the base to the power n
+pub number-bound : (base : ℕ) (t : List ℕ) (v : ℕ) → textNumber base t ≡ some v → v < base ^ length t
+unfolding textNumber
+number-bound base [] v e = let z : _≡_ {A = ℕ} 0 1 = cc in absurd (omega arith)
+number-bound base (c ∷ t) v e = go (allDigits base (c ∷ t)) refl e
+  where
+    go : (b : Bool) → allDigits base (c ∷ t) ≡ b → cond b (some (numberOf base (map digitOf (c ∷ t)))) none ≡ some v → v < base ^ suc (length t)
+    go true d e =
+        let same : numberOf base (map digitOf (c ∷ t)) ≡ v = cc in
+        subst (λ n. v < base ^ n) (length-map (c ∷ t) digitOf) (subst (λ x. x < base ^ length (map digitOf (c ∷ t))) same (number-lt base (map digitOf (c ∷ t)) (digits-below base (c ∷ t) d)))
+    go false d e = let z : _≡_ {A = ℕ} 0 1 = cc in absurd (omega arith)
+
+module _ (t : List ℕ) where
+  -- a larger number has more than four digits
+  five-digits : (v : ℕ) → textNumber 16 (take (digitCount 16 t) t) ≡ some v → 65535 < v → ltb 4 (length (take (digitCount 16 t) t)) ≡ true
+  five-digits v e h =
+      let p = take (digitCount 16 t) t in
+      elim (decLe (length p) 4) [
+        | yes l ↦ absurd (omega (arith, number-bound 16 p v e, pow-le-pow-right {n = 16} (omega arith) l))
+        | no n ↦ lt-ltb 4 (length p) (omega arith)
+      ]
+
+  pub group-nothing : leading 16 (boundedNumber 16 65535) t ≡ Nothing → Nothing ≡ leading 16 groupOf t
+  unfolding leading groupOf
+  group-nothing e = go (textNumber 16 (take (digitCount 16 t) t)) refl e
+    where
+      go : (o : Option ℕ) → textNumber 16 (take (digitCount 16 t) t) ≡ o → asLeading (atMost 65535 o) (digitCount 16 t) ≡ Nothing → Nothing ≡ asLeading (cond (ltb 4 (length (take (digitCount 16 t) t))) none o) (digitCount 16 t)
+      go none d e = elim (ltb 4 (length (take (digitCount 16 t) t))) as (λ b. Nothing ≡ asLeading (cond b none none) (digitCount 16 t)) [ true ↦ refl | false ↦ refl ]
+      go (some v) d e = elim (decLe v 65535) [
+        | yes l ↦ let f : Number v (digitCount 16 t) ≡ Nothing = rw (le-leb v 65535 l) at e in let z : _≡_ {A = ℕ} 0 1 = cc in absurd (omega arith)
+        | no n ↦ sym (ap (λ b. asLeading (cond b none (some v)) (digitCount 16 t)) (five-digits v d (omega arith)))
+      ]
+
+  module _ (v n : ℕ) (e : leading 16 (boundedNumber 16 65535) t ≡ Number v n) where
+    read : (digitCount 16 t ≡ n) × (textNumber 16 (take (digitCount 16 t) t) ≡ some v)
+    unfolding leading
+    read = go (textNumber 16 (take (digitCount 16 t) t)) refl e
+      where
+        go : (o : Option ℕ) → textNumber 16 (take (digitCount 16 t) t) ≡ o → asLeading (atMost 65535 o) (digitCount 16 t) ≡ Number v n → (digitCount 16 t ≡ n) × (o ≡ some v)
+        go none d e = let z : _≡_ {A = ℕ} 0 1 = cc in absurd (omega arith)
+        go (some w) d e = inner (leb w 65535) e
+          where
+            inner : (b : Bool) → asLeading (cond b (some w) none) (digitCount 16 t) ≡ Number v n → (digitCount 16 t ≡ n) × (some w ≡ some v)
+            inner true e = (cc, (cc))
+            inner false e = let z : _≡_ {A = ℕ} 0 1 = cc in absurd (omega arith)
+
+    pub group-long : 4 < n → Nothing ≡ leading 16 groupOf t
+    unfolding leading groupOf
+    group-long h = sym (rw (lt-ltb 4 (length (take (digitCount 16 t) t)) (omega (arith, read .0, length-take-le (digitCount 16 t) t (count-le 16 t)))))
+
+    pub group-number : n ≤ 4 → Number v n ≡ leading 16 groupOf t
+    unfolding leading groupOf
+    group-number h =
+        sym (rw (le-ltb 4 (length (take (digitCount 16 t) t)) (omega (arith, read .0, length-take-le (digitCount 16 t) t (count-le 16 t))), read .1, read .0))

@@ -1,0 +1,98 @@
+-- Bytes put into a buffer one after the other; what does not fit is left out. Assumes nothing.
+use mathlib.Core.Path.{_≡_, refl, sym, ap, ap₂, _∙_}
+use mathlib.Core.List.{List, [], _∷_, _++_}
+use Prim.Native.Nat.{ℕ, zero, suc, _+_, _≤_, _<_}
+use native.Mathlib.Nat.{add-zero, suc-add}
+use native.Mathlib.Numerals.{unary-clauses}
+use native.Mathlib.Omega.{arith}
+use lib.ListN.{length, take, set, length-append, take-append-drop}
+use lib.Seq.{take-length, take-take, take-append-seam}
+use Rattle.digits.specs.Placing.{placed, behind, Puts}
+
+-- ---- placing, one byte of the buffer after the other
+
+-- before the index, and at it
+step : (s : List ℕ) (i x : ℕ) (l : List ℕ) → placed s (suc i) (x ∷ l) ≡ x ∷ placed s i l
+unfolding placed
+step s i x l = rw (suc-add i (length s))
+
+over : (b : ℕ) (s : List ℕ) (x : ℕ) (l : List ℕ) → placed (b ∷ s) 0 (x ∷ l) ≡ b ∷ placed s 0 l
+unfolding placed
+over b s x l = simp unary-clauses
+
+-- no bytes, one byte, and no room
+nothing : (i : ℕ) (l : List ℕ) → placed [] i l ≡ l
+unfolding placed
+nothing i l = rw (add-zero i, take-append-drop i l, take-length l)
+
+one : (b i : ℕ) (l : List ℕ) → placed (b ∷ []) i l ≡ set l i b
+unfolding placed
+one b i [] = refl
+one b zero (x ∷ l) = over b [] x l ∙ ap (λ r. b ∷ r) (nothing 0 l)
+one b (suc i) (x ∷ l) = step (b ∷ []) i x l ∙ ap (λ r. x ∷ r) (one b i l)
+
+full : (s : List ℕ) (i : ℕ) (l : List ℕ) → length l ≤ i → placed s i l ≡ l
+unfolding placed
+full s i [] h = refl
+full s zero (x ∷ l) h = absurd (omega arith)
+full s (suc i) (x ∷ l) h = step s i x l ∙ ap (λ r. x ∷ r) (full s i l (omega arith))
+
+same-length : (s : List ℕ) (i : ℕ) (l : List ℕ) → length (placed s i l) ≡ length l
+unfolding placed
+same-length s i [] = refl
+same-length [] i (x ∷ l) = ap length (nothing i (x ∷ l))
+same-length (b ∷ s) zero (x ∷ l) = ap length (over b s x l) ∙ ap suc (same-length s 0 l)
+same-length (b ∷ s) (suc i) (x ∷ l) = ap length (step (b ∷ s) i x l) ∙ ap suc (same-length (b ∷ s) i l)
+
+-- what is put where the bytes before it end
+both : (s u : List ℕ) (i : ℕ) (l : List ℕ) → placed u (behind s i l) (placed s i l) ≡ placed (s ++ u) i l
+unfolding placed
+both s u i [] = refl
+both [] u i (x ∷ l) = let here : behind [] i (x ∷ l) ≡ i = omega arith in ap₂ (placed u) here (nothing i (x ∷ l))
+both (b ∷ s) u zero (x ∷ l) =
+    let next : behind (b ∷ s) 0 (x ∷ l) ≡ suc (behind s 0 l) = omega arith in
+    ap₂ (placed u) next (over b s x l)
+    ∙ step u (behind s 0 l) b (placed s 0 l)
+    ∙ ap (λ r. b ∷ r) (both s u 0 l)
+    ∙ sym (over b (s ++ u) x l)
+both (b ∷ s) u (suc i) (x ∷ l) =
+    let next : behind (b ∷ s) (suc i) (x ∷ l) ≡ suc (behind (b ∷ s) i l) = omega arith in
+    ap₂ (placed u) next (step (b ∷ s) i x l)
+    ∙ step u (behind (b ∷ s) i l) x (placed (b ∷ s) i l)
+    ∙ ap (λ r. x ∷ r) (both (b ∷ s) u i l)
+    ∙ sym (step (b ∷ s ++ u) i x l)
+
+-- ---- calls that put
+
+-- no bytes
+pub puts-none : (l : List ℕ) (i : ℕ) → Puts l l i i []
+puts-none l i = record { index = omega arith; buffer = sym (nothing i l) }
+
+-- one byte, with room for it, and any bytes with none
+pub puts-byte : (l : List ℕ) (i b : ℕ) → i < length l → Puts l (set l i b) i (i + 1) (b ∷ [])
+puts-byte l i b h = record { index = omega arith; buffer = sym (one b i l) }
+
+pub puts-full : (l : List ℕ) (i : ℕ) (s : List ℕ) → length l ≤ i → Puts l l i i s
+puts-full l i s h = record { index = omega arith; buffer = sym (full s i l h) }
+
+module _ {a b : List ℕ} {i j : ℕ} {s : List ℕ} (p : Puts a b i j s) where
+  -- the buffer keeps its length
+  pub puts-length : length b ≡ length a
+  puts-length = ap length (p .buffer) ∙ same-length s i a
+
+  -- one call after another
+  pub puts-then : {c : List ℕ} {k : ℕ} {u : List ℕ} → Puts b c j k u → Puts a c i k (s ++ u)
+  puts-then {c} {k} {u} q =
+      record {
+        index = omega (arith, p .index, q .index, puts-length, length-append s u);
+        buffer = q .buffer ∙ ap₂ (placed u) (p .index) (p .buffer) ∙ both s u i a;
+      }
+
+-- bytes that fit at the start of the buffer
+pub puts-whole : {a b : List ℕ} {n : ℕ} {s : List ℕ} → Puts a b 0 n s → length s ≤ length a → (n ≡ length s) × (take n b ≡ s)
+unfolding placed
+puts-whole {a} {b} {n} {s} p h =
+    let e : n ≡ length s = omega (arith, p .index) in (
+      e,
+      rw (p .buffer, e, take-take _ _ _ h, take-append-seam),
+    )

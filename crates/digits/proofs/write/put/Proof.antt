@@ -1,0 +1,23 @@
+-- `digits::write::put` meets its contract. Assumes nothing.
+use borrow.Author.Needs.{needs}
+use Rattle.digits.proofs.PlacingLaws.{puts-byte, puts-full}
+use Rattle.digits.proofs.write.put.Statement.{statement}
+use Rattle.digits.proofs.write.put.Tie as tie
+
+returns : tie.Need-returns
+returns c = puts-full _ _ _ (c .if1 .taken)
+
+slice-write-text : tie.Need-slice-write-text
+slice-write-text c = search needs
+
+add-result : tie.Need-add-result
+add-result c = search needs
+
+same-length : tie.Need-same-length
+same-length c = search needs
+
+returns-2 : tie.Need-returns-2
+returns-2 c = puts-byte _ _ _ (c .if1 .left)
+
+pub put-spec : {M : Type 1} → statement M
+put-spec = tie.close (tie.spec returns slice-write-text add-result same-length returns-2)

@@ -1,0 +1,147 @@
+// The number at the start of a text: all the digits that it begins with.
+ghost use mathlib.Core.Path.{_≡_};
+ghost use mathlib.Core.Bool.{cond};
+ghost use mathlib.Core.Option.{some};
+ghost use Prim.Native.Nat.{_<_, _^_};
+ghost use lib.Dec.{ltb};
+ghost use lib.ListN.{drop};
+ghost use Rattle.digits.specs.Numerals.{digitOf, atMost, boundedNumber, partOf, groupOf, decimalOf, asLeading, leading};
+ghost use Rattle.digits.specs.declared.read.Leading.the-variants.{Number, Nothing};
+ghost use Rattle.digits.specs.Pieces.{indexOf};
+
+// What the digits at the start of a text are read as: a number and how many digits it has.
+pub enum Leading {
+    Number(u32, usize),
+    Nothing,
+}
+
+// The value of a digit, or 16. No branch depends on which digit it is: bit n of the mask tells whether the byte 48 + n is a digit.
+fn digit_value(c: u8) -> u8
+    ensures { λ r. ⌜ r ≡ digitOf c ⌝ }
+{
+    if c < 48 {
+        return 16;
+    }
+    if 111 < c {
+        return 16;
+    }
+    let mask: u64 = 0x007e_0000_007e_03ff;
+    if (mask >> (c - 48)) % 2 < 1 {
+        return 16;
+    }
+    c % 16 + 9 * (c / 64)
+}
+
+// The number and its digits, where there is a digit.
+fn some_digits(value: u64, count: usize) -> Leading
+    requires { ⌜ value < 2 ^ 32 ⌝ }
+    ensures { λ r. ⌜ r ≡ cond (ltb 0 count) (Number value count) Nothing ⌝ }
+{
+    if count == 0 {
+        return Leading::Nothing;
+    }
+    Leading::Number(value as u32, count)
+}
+
+// The digits of a base up to 16, as a number that is at most `most`.
+pub fn leading_number(text: &[u8], base: u8, most: u32) -> Leading
+    ensures { λ r. ⌜ r ≡ leading base (boundedNumber base most) (now (text .entry)) ⌝ }
+{
+    let mut value: u64 = 0;
+    let mut i: usize = 0;
+    while i < text.len() {
+        let digit = digit_value(text[i]);
+        if base <= digit {
+            return some_digits(value, i);
+        }
+        value = value * (base as u64) + (digit as u64);
+        if (most as u64) < value {
+            return Leading::Nothing;
+        }
+        i += 1;
+    }
+    some_digits(value, i)
+}
+
+// One to four hex digits.
+pub fn leading_group(text: &[u8]) -> Leading
+    ensures { λ r. ⌜ r ≡ leading 16 groupOf (now (text .entry)) ⌝ }
+{
+    let Leading::Number(value, count) = leading_number(text, 16, 65535) else {
+        return Leading::Nothing;
+    };
+    if 4 < count {
+        return Leading::Nothing;
+    }
+    Leading::Number(value, count)
+}
+
+// The decimal digit at an index, or 32 where there is none.
+fn decimal_at(text: &[u8], at: usize) -> u8
+    ensures { λ r. ⌜ r ≡ decimalOf (drop at (now (text .entry))) ⌝ }
+{
+    if text.len() <= at {
+        return 32;
+    }
+    let c = text[at];
+    match c {
+        48..=57 => c - 48,
+        _ => 32,
+    }
+}
+
+// The number, where it is at most `most`.
+fn at_most(value: u32, count: usize, most: u32) -> Leading
+    ensures { λ r. ⌜ r ≡ asLeading (atMost most (some value)) count ⌝ }
+{
+    if most < value {
+        return Leading::Nothing;
+    }
+    Leading::Number(value, count)
+}
+
+// The first number or the second, for the compiler to choose without a branch: the lengths of parts follow no pattern.
+fn choose(first: bool, a: u32, b: u32) -> u32
+    ensures { λ r. ⌜ r ≡ cond first a b ⌝ }
+{
+    if first { a } else { b }
+}
+
+// A decimal part that is at most `most`: one to three digits, no leading zero but in `0`.
+pub fn leading_part(text: &[u8], most: u32) -> Leading
+    ensures { λ r. ⌜ r ≡ leading 10 (partOf most) (now (text .entry)) ⌝ }
+{
+    let a = decimal_at(text, 0);
+    if 9 < a {
+        return Leading::Nothing;
+    }
+    let b = decimal_at(text, 1);
+    if 9 < b {
+        return at_most(a as u32, 1, most);
+    }
+    if a < 1 {
+        return Leading::Nothing;
+    }
+    let c = decimal_at(text, 2);
+    if c + decimal_at(text, 3) < 32 {
+        return Leading::Nothing;
+    }
+    let two = (a as u32) * 10 + (b as u32);
+    let value = choose(c <= 9, two * 10 + (c as u32), two);
+    let count = choose(c <= 9, 3, 2);
+    at_most(value, count as usize, most)
+}
+
+// The length of the piece before the first `separator`; the whole length where there is none.
+pub fn find(text: &[u8], separator: u8) -> usize
+    ensures { λ r. ⌜ r ≡ indexOf separator (now (text .entry)) ⌝ }
+{
+    let mut i: usize = 0;
+    while i < text.len() {
+        if text[i] == separator {
+            return i;
+        }
+        i += 1;
+    }
+    i
+}

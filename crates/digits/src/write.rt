@@ -1,0 +1,74 @@
+// Text put together in a lent array, and a finished text stored in a lent buffer.
+ghost use mathlib.Core.Path.{_≡_};
+ghost use mathlib.Core.Bool.{cond};
+ghost use mathlib.Core.List.{[], _∷_};
+ghost use Prim.Native.Nat.{_<_};
+ghost use Rattle.address.specs.Answers.{writingAnswer, writeAnswer, writeLeaves};
+ghost use Rattle.digits.specs.Numerals.{decimal, hex, digitByte};
+ghost use Rattle.digits.specs.Placing.{Puts};
+use address::Refusal;
+use address::Writing;
+
+// Puts a byte at an index of the text, if there is room, and answers the next index.
+pub fn put(text: &mut [u8], at: usize, byte: u8) -> usize
+    ensures { λ r. ⌜ Puts (now (text .entry)) (now (text .exit)) at r (byte ∷ []) ⌝ }
+{
+    if text.len() <= at {
+        return at;
+    }
+    text[at] = byte;
+    at + 1
+}
+
+// The same, if it is wanted.
+fn put_if(text: &mut [u8], at: usize, wanted: bool, byte: u8) -> usize
+    ensures { λ r. ⌜ Puts (now (text .entry)) (now (text .exit)) at r (cond wanted (byte ∷ []) []) ⌝ }
+{
+    if wanted {
+        return put(text, at, byte);
+    }
+    at
+}
+
+// Puts a number in decimal.
+pub fn put_decimal(text: &mut [u8], at: usize, n: u8) -> usize
+    ensures { λ r. ⌜ Puts (now (text .entry)) (now (text .exit)) at r (decimal n) ⌝ }
+{
+    let tens = put_if(text, at, 100 <= n, 48 + n / 100);
+    let ones = put_if(text, tens, 10 <= n, 48 + n / 10 % 10);
+    put(text, ones, 48 + n % 10)
+}
+
+// The byte of a hex digit, in lower case.
+fn digit_byte(d: u16) -> u8
+    requires { ⌜ d < 16 ⌝ }
+    ensures { λ r. ⌜ r ≡ digitByte d ⌝ }
+{
+    if d < 10 { 48 + d as u8 } else { 87 + d as u8 }
+}
+
+// Puts a number in hexadecimal.
+pub fn put_hex(text: &mut [u8], at: usize, n: u16) -> usize
+    ensures { λ r. ⌜ Puts (now (text .entry)) (now (text .exit)) at r (hex n) ⌝ }
+{
+    let b = put_if(text, at, 4096 <= n, digit_byte(n / 4096));
+    let c = put_if(text, b, 256 <= n, digit_byte(n / 256 % 16));
+    let d = put_if(text, c, 16 <= n, digit_byte(n / 16 % 16));
+    put(text, d, digit_byte(n % 16))
+}
+
+// Stores a text at the start of `out`, where there is room for it.
+pub fn store(text: &[u8], out: &mut [u8]) -> Writing
+    ensures { λ r. ⌜ (writingAnswer r ≡ writeAnswer [] (now (text .entry)) (now (out .entry))) × (now (out .exit) ≡ writeLeaves [] (now (text .entry)) (now (out .entry))) ⌝ }
+{
+    let n = text.len();
+    if out.len() < n {
+        return Writing::Refused(Refusal::NoRoom);
+    }
+    let mut i: usize = 0;
+    while i < n {
+        out[i] = text[i];
+        i += 1;
+    }
+    Writing::Wrote(n)
+}
