@@ -1,0 +1,2 @@
+-- DottedLaws: dotted text read part after part.
+pub mod DottedLaws

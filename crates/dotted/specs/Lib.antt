@@ -1,0 +1,2 @@
+-- Dotted: IPv4 text, read and written.
+pub mod Dotted
