@@ -1,0 +1,113 @@
+-- What is claimed of strict text and normal text together (01, "Strict text" and "Normal text"). Assumes nothing.
+use mathlib.Core.Path.{_≡_, refl}
+use mathlib.Core.Bool.{true, false}
+use mathlib.Core.List.{List, _∷_, _++_, map}
+use mathlib.Core.Option.{Option, some, none}
+use Prim.Native.Nat.{ℕ, _+_, _-_, _≤_, _<_}
+use native.Mathlib.Omega.{arith}
+use borrow.Author.Tests.{lt-ltb, le-ltb}
+use lib.ListN.{length, replicate}
+use Rattle.address.specs.declared.Address.{Address}
+use Rattle.address.specs.declared.Address.the-variants.{V4, V6}
+use Rattle.address.specs.Addresses.{IsAddress, family}
+use Rattle.address.specs.Answers.{gives}
+use Rattle.octets.specs.BigEndian.{AllBelow}
+use Rattle.digits.specs.Numerals.{groupOf, lower}
+use Rattle.digits.specs.Pieces.{contains, separated}
+use Rattle.text.specs.Strict.{eightOf, strictOf, strictAnswer}
+use Rattle.text.proofs.CaseLaws.{lower-strict}
+use Rattle.text.proofs.FamilyLaws.{no-colon-4, colon-6}
+use Rattle.text.proofs.MeaningLaws.{strict-address}
+use Rattle.text.proofs.SpellingLaws.{eight-spelling, gap-spelling}
+use Rattle.dotted.specs.Dotted.{every}
+use Rattle.normal.specs.Runs.{ZeroRun, LeftmostLongest, longestRun, firstRun}
+use Rattle.normal.specs.Normal.{groupsText, shortened, normalGroups, normalText}
+use Rattle.normal.proofs.BoundLaws.{text-4-most, text-6-most}
+use Rattle.normal.proofs.ReadBackLaws.{groups-read, shortened-read, text-read, text-answer, text-6-lacks}
+use Rattle.normal.proofs.RunLaws as runs
+
+-- ---- lengths
+
+-- "at most 15 bytes", and "At most 39 bytes".
+pub at-most-15 : (v : ℕ) → length (normalText (V4 v)) ≤ 15
+at-most-15 = text-4-most
+
+pub at-most-39 : (hi lo : ℕ) → length (normalText (V6 hi lo)) ≤ 39
+at-most-39 = text-6-most
+
+-- ---- reading what was written
+
+-- Demand 2: reading the normal text of an address returns that address, asked for by its family or by 0.
+pub read-back : (a : Address) → IsAddress a → (strictOf 0 (normalText a) ≡ some a) × (strictOf (family a) (normalText a) ≡ some a)
+read-back = text-read
+
+pub read-back-answer : (a : Address) → IsAddress a → (strictAnswer 0 (normalText a) ≡ gives a) × (strictAnswer (family a) (normalText a) ≡ gives a)
+read-back-answer = text-answer
+
+-- Any spelling of eight groups, in either case and with leading zeros up to four digits, is read as the groups; and so is one with
+-- `::` for the zeros between those on its two sides.
+pub any-spelling : (ps : List (List ℕ)) (gs : List ℕ) → every groupOf ps ≡ some gs → length gs ≡ 8 → eightOf (separated 58 ps) ≡ some gs
+any-spelling = eight-spelling
+
+pub any-spelling-around : (ls rs : List (List ℕ)) (xs ys : List ℕ) → every groupOf ls ≡ some xs → every groupOf rs ≡ some ys → length xs + length ys ≤ 7
+    → eightOf (separated 58 ls ++ (58 ∷ 58 ∷ separated 58 rs)) ≡ some (xs ++ (replicate (8 - (length xs + length ys)) 0 ++ ys))
+any-spelling-around = gap-spelling
+
+-- "`::` may stand once for one or more whole zero groups": for any zeros that it stands for the groups are the same, and so are they without it.
+module _ (gs : List ℕ) (long : length gs ≡ 8) (small : AllBelow 65536 gs) where
+  pub any-zeros : (start n : ℕ) → ZeroRun gs start n → 1 ≤ n → eightOf (shortened start n gs) ≡ some gs
+  any-zeros = shortened-read gs long small
+
+  pub no-zeros : eightOf (groupsText gs) ≡ some gs
+  no-zeros = groups-read gs long small
+
+-- ---- the run that is shortened
+
+-- "the longest run of two or more zero groups becomes `::`. Of two runs equally long the leftmost is shortened."
+pub run-is : (gs : List ℕ) → LeftmostLongest gs (firstRun (longestRun gs) gs) (longestRun gs)
+run-is = runs.run-is
+
+-- It is shortened where it has two or more groups, and no group is left out where it has not.
+module _ (gs : List ℕ) (start n : ℕ) (r : LeftmostLongest gs start n) where
+  pub shortens : 2 ≤ n → normalGroups gs ≡ shortened start n gs
+  unfolding normalGroups
+  shortens h = let e = runs.run-only r in rw (← e .1, ← e .0, le-ltb n 2 h)
+
+  pub stays : n < 2 → normalGroups gs ≡ groupsText gs
+  unfolding normalGroups
+  stays h = rw (← runs.run-only r .0, lt-ltb n 2 h)
+
+-- There is one such run.
+pub run-only : (gs : List ℕ) (s n : ℕ) → LeftmostLongest gs s n → (n ≡ longestRun gs) × (s ≡ firstRun (longestRun gs) gs)
+run-only gs s n r = runs.run-only r
+
+-- "Hex groups are always written, never the dotted tail."
+pub never-dotted : (hi lo : ℕ) → contains 46 (normalText (V6 hi lo)) ≡ false
+never-dotted = text-6-lacks
+
+-- ---- strict text
+
+-- What a strict text is read as is an address: 32 bits, or two halves of 64.
+pub reads-address : (family : ℕ) (t : List ℕ) (a : Address) → strictOf family t ≡ some a → IsAddress a
+reads-address = strict-address
+
+-- "IPv6 text always has a colon and IPv4 text never has one."
+pub always-colon : (t : List ℕ) (a : Address) → strictOf 6 t ≡ some a → contains 58 t ≡ true
+always-colon = colon-6
+
+pub never-colon : (t : List ℕ) (a : Address) → strictOf 4 t ≡ some a → contains 58 t ≡ false
+never-colon = no-colon-4
+
+-- "No text is both".
+pub not-both : (t : List ℕ) (a : Address) → strictOf 4 t ≡ some a → strictOf 6 t ≡ none
+not-both t a e = go (strictOf 6 t) refl
+  where
+    go : (o : Option Address) → strictOf 6 t ≡ o → o ≡ none
+    go none q = refl
+    go (some b) q =
+        let z : _≡_ {A = ℕ} 0 1 = cc (always-colon t b q, never-colon t a e) in
+        absurd (omega arith)
+
+-- "hex digits, either case": a text is read as the same text in lower case.
+pub either-case : (family : ℕ) (t : List ℕ) → strictOf family (map lower t) ≡ strictOf family t
+either-case = lower-strict

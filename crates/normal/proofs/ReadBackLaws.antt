@@ -1,0 +1,143 @@
+-- What a normal text is read as: its numbers, wherever `::` stands for zeros. Assumes nothing.
+use mathlib.Core.Path.{_≡_, refl, ap, _∙_}
+use mathlib.Core.Bool.{Bool, true, false, cond, _||_, not}
+use mathlib.Core.List.{List, [], _∷_, _++_, map}
+use mathlib.Core.Option.{Option, some}
+use Prim.Native.Nat.{ℕ, _+_, _-_, _^_, _≤_, _<_}
+use native.Mathlib.Omega.{arith}
+use borrow.Author.Tests.{le-ltb, ltb-false}
+use lib.Dec.{eqb, ltb, lit<, lit≤}
+use lib.ListN.{length, take, drop, replicate, length-drop, take-append-drop}
+use lib.Seq.{length-take-le, drop-drop}
+use Rattle.address.specs.declared.Address.{Address}
+use Rattle.address.specs.declared.Address.the-variants.{V4, V6}
+use Rattle.address.specs.Addresses.{IsAddress, family, number}
+use Rattle.address.specs.Answers.{readAnswer, noAddress, gives}
+use Rattle.octets.specs.BigEndian.{AllBelow, digitsOf}
+use Rattle.octets.specs.Octets.{groupsOf, groupsAddress}
+use Rattle.octets.proofs.Claims.{halves-of-groups}
+use Rattle.octets.proofs.DigitLaws.{digits-length, digits-number, digits-below, below-take, below-drop}
+use Rattle.digits.specs.Numerals.{digitOf, partOf, groupOf, decimal, hex}
+use Rattle.digits.specs.Pieces.{contains}
+use Rattle.digits.proofs.NumeralLaws.{hex-group, decimal-part, no-digit, numeral-digits}
+use Rattle.digits.proofs.SeparatedLaws.{Lacks, Each, lacks-append, lacks-separated}
+use Rattle.text.specs.Strict.{eightOf, strictOf, strictAnswer}
+use Rattle.text.proofs.FamilyLaws.{colon-not-dotted, eight-colon}
+use Rattle.text.proofs.SpellingLaws.{dotted-spelling, eight-spelling, gap-spelling}
+use Rattle.dotted.specs.Dotted.{dottedText, every, dottedOf}
+use Rattle.normal.specs.Runs.{ZeroRun, longestRun, firstRun}
+use Rattle.normal.specs.Normal.{groupsText, shortened, normalGroups, normalText}
+use Rattle.normal.proofs.RunLaws.{run-is}
+use Rattle.normal.proofs.BoundLaws.{text-most}
+
+-- ---- numbers, each written and read
+
+every-written : (m : ℕ) (f : List ℕ → Option ℕ) (g : ℕ → List ℕ) → ((x : ℕ) → x < m → f (g x) ≡ some x)
+    → (xs : List ℕ) → AllBelow m xs → every f (map g xs) ≡ some xs
+unfolding every
+every-written m f g h [] l = refl
+every-written m f g h (x ∷ xs) l = rw (h x (l .0), every-written m f g h xs (l .1))
+
+every-hex : (gs : List ℕ) → AllBelow 65536 gs → every groupOf (map hex gs) ≡ some gs
+every-hex = every-written 65536 groupOf hex hex-group
+
+every-decimal : (xs : List ℕ) → AllBelow 256 xs → every (partOf 255) (map decimal xs) ≡ some xs
+every-decimal = every-written 256 (partOf 255) decimal λ x h. decimal-part 255 x (omega arith) (omega arith)
+
+-- ---- groups
+
+module _ (gs : List ℕ) (long : length gs ≡ 8) (small : AllBelow 65536 gs) where
+  pub groups-read : eightOf (groupsText gs) ≡ some gs
+  unfolding groupsText
+  groups-read = eight-spelling (map hex gs) gs (every-hex gs small) long
+
+  pub shortened-read : (s n : ℕ) → ZeroRun gs s n → 1 ≤ n → eightOf (shortened s n gs) ≡ some gs
+  unfolding shortened
+  shortened-read s n r one =
+      let xs = take s gs in
+      let ys = drop (s + n) gs in
+      let inside = r .inside in
+      let lx : length xs ≡ s = length-take-le s gs (omega arith) in
+      let ly : length ys ≡ 8 - (s + n) = omega (arith, length-drop (s + n) gs) in
+      let count : 8 - (length xs + length ys) ≡ n = omega arith in
+      let back : xs ++ (replicate n 0 ++ ys) ≡ gs = rw (← r .zeros, ← drop-drop n s gs, take-append-drop n (drop s gs), take-append-drop s gs) in
+      gap-spelling (map hex xs) (map hex ys) xs ys (every-hex xs (below-take 65536 s gs small)) (every-hex ys (below-drop 65536 (s + n) gs small)) (omega arith)
+      ∙ ap (λ (k : ℕ). some (xs ++ (replicate k 0 ++ ys))) count
+      ∙ ap some back
+
+  normal-read : eightOf (normalGroups gs) ≡ some gs
+  unfolding normalGroups
+  normal-read = pick (ltb (longestRun gs) 2) refl
+    where
+      pick : (b : Bool) → ltb (longestRun gs) 2 ≡ b → eightOf (cond b (groupsText gs) (shortened (firstRun (longestRun gs) gs) (longestRun gs) gs)) ≡ some gs
+      pick true q = groups-read
+      pick false q = shortened-read (firstRun (longestRun gs) gs) (longestRun gs) (run-is gs .run) (omega (arith, ltb-false (longestRun gs) 2 q))
+
+-- ---- addresses
+
+dotted-read : (v : ℕ) → v < 2 ^ 32 → dottedOf (normalText (V4 v)) ≡ some v
+unfolding normalText dottedText
+dotted-read v h =
+    dotted-spelling (map decimal (digitsOf 256 4 v)) (digitsOf 256 4 v) (every-decimal (digitsOf 256 4 v) (digits-below 256 (lit< tt) 4 v)) (digits-length 256 4 v)
+    ∙ ap some (digits-number 256 (lit< tt) 4 v h)
+
+-- a text of one family, read as that family and as either
+module _ (t : List ℕ) where
+  strict-4 : (v : ℕ) → dottedOf t ≡ some v → (strictOf 0 t ≡ some (V4 v)) × (strictOf 4 t ≡ some (V4 v))
+  unfolding strictOf
+  strict-4 v e = (rw e, rw e)
+
+  strict-6 : (gs : List ℕ) → eightOf t ≡ some gs → (strictOf 0 t ≡ some (groupsAddress gs)) × (strictOf 6 t ≡ some (groupsAddress gs))
+  unfolding strictOf
+  strict-6 gs e = let n = colon-not-dotted t (eight-colon t gs e) in (rw (n, e), rw e)
+
+pub text-read : (a : Address) → IsAddress a → (strictOf 0 (normalText a) ≡ some a) × (strictOf (family a) (normalText a) ≡ some a)
+unfolding normalText groupsOf
+text-read (V4 v) h = strict-4 (normalText (V4 v)) v (dotted-read v h)
+text-read (V6 hi lo) h =
+    let n = number (V6 hi lo) in
+    let read = strict-6 (normalText (V6 hi lo)) (groupsOf hi lo) (normal-read (groupsOf hi lo) (digits-length 65536 8 n) (digits-below 65536 (lit< tt) 8 n)) in
+    let back = ap some (halves-of-groups hi lo (h .0) (h .1)) in
+    (read .0 ∙ back, read .1 ∙ back)
+
+-- ---- answers
+
+family-asked : (a : Address) → (eqb (family a) 4 || (eqb (family a) 6 || eqb (family a) 0)) ≡ true
+family-asked (V4 v) = refl
+family-asked (V6 hi lo) = refl
+
+strict-gives : (f : ℕ) (t : List ℕ) (a : Address) → (eqb f 4 || (eqb f 6 || eqb f 0)) ≡ true → length t ≤ 64 → strictOf f t ≡ some a → strictAnswer f t ≡ gives a
+unfolding strictAnswer readAnswer
+strict-gives f t a asked short e = go (eqb f 4 || (eqb f 6 || eqb f 0)) (ltb 64 (length t)) (strictOf f t) asked (le-ltb 64 (length t) short) e
+  where
+    go : (x y : Bool) (o : Option Address) → x ≡ true → y ≡ false → o ≡ some a → readAnswer noAddress ((9, not x) ∷ (1, y) ∷ []) o ≡ gives a
+    go x y o p q r = rw (p, q, r)
+
+pub text-answer : (a : Address) → IsAddress a → (strictAnswer 0 (normalText a) ≡ gives a) × (strictAnswer (family a) (normalText a) ≡ gives a)
+text-answer a h =
+    let t = normalText a in
+    let short = text-most a in
+    let read = text-read a h in
+    (strict-gives 0 t a refl (omega arith) (read .0), strict-gives (family a) t a (family-asked a) (omega arith) (read .1))
+
+-- ---- no dot among groups
+
+hex-lacks : (gs : List ℕ) → Each (Lacks 46) (map hex gs)
+unfolding digitOf
+hex-lacks [] = tt
+hex-lacks (g ∷ gs) = (no-digit 16 46 (hex g) (lit≤ tt) refl (numeral-digits 16 4 g (lit≤ tt) (lit< tt) (lit≤ tt) .all), hex-lacks gs)
+
+groups-lack : (gs : List ℕ) → Lacks 46 (groupsText gs)
+unfolding groupsText
+groups-lack gs = lacks-separated 58 46 refl (map hex gs) (hex-lacks gs)
+
+pub text-6-lacks : (hi lo : ℕ) → Lacks 46 (normalText (V6 hi lo))
+unfolding normalText contains
+text-6-lacks hi lo = go (groupsOf hi lo)
+  where
+    go : (gs : List ℕ) → Lacks 46 (normalGroups gs)
+    go gs = pick (ltb (longestRun gs) 2) (firstRun (longestRun gs) gs) (longestRun gs)
+      where
+        pick : (b : Bool) (s n : ℕ) → Lacks 46 (cond b (groupsText gs) (shortened s n gs))
+        pick true s n = groups-lack gs
+        pick false s n = lacks-append 46 (groupsText (take s gs)) (58 ∷ 58 ∷ groupsText (drop (s + n) gs)) (groups-lack (take s gs)) (groups-lack (drop (s + n) gs))
