@@ -159,6 +159,13 @@ digit-values base (c ∷ t) e =
     let both = and-eq-true-iff (ltb (digitOf c) base) (allDigits base t) .0 e in
     (ltb-true (digitOf c) base (both .0), digit-values base t (both .1))
 
+-- n digits write less than the base to the power n
+pub number-bound : (base : ℕ) (t : List ℕ) (x : ℕ) → textNumber base t ≡ some x → x < base ^ length t
+number-bound base t x e =
+    let d = read-digits base t x e in
+    let is : numberOf base (map digitOf t) ≡ x = let j = read-number base t d in cc in
+    omega (arith, number-lt base (map digitOf t) (digit-values base t (d .all)), ap (λ (n : ℕ). base ^ n) (length-map t digitOf))
+
 pub group-digits : (t : List ℕ) (x : ℕ) → groupOf t ≡ some x → Digits 16 t × (x < 65536)
 unfolding groupOf
 group-digits t x e = go (ltb 4 (length t)) refl e
@@ -166,10 +173,8 @@ group-digits t x e = go (ltb 4 (length t)) refl e
     go : (b : Bool) → ltb 4 (length t) ≡ b → cond b none (textNumber 16 t) ≡ some x → Digits 16 t × (x < 65536)
     go true q k = let z : _≡_ {A = ℕ} 0 1 = cc in absurd (omega arith)
     go false q k =
-        let d = read-digits 16 t x k in
-        let is : numberOf 16 (map digitOf t) ≡ x = let j = read-number 16 t d in cc in
         let power : 16 ^ length t ≤ 16 ^ 4 = pow-le-pow-right (omega arith) (ltb-false 4 (length t) q) in
-        (d, omega (arith, number-lt 16 (map digitOf t) (digit-values 16 t (d .all)), ap (λ (n : ℕ). 16 ^ n) (length-map t digitOf)))
+        (read-digits 16 t x k, omega (arith, number-bound 16 t x k))
 
 pub part-digits : (m : ℕ) (t : List ℕ) (x : ℕ) → partOf m t ≡ some x → Digits 10 t
 unfolding partOf

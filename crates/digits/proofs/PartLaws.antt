@@ -1,34 +1,25 @@
 -- Decimal parts and groups of hex digits at the start of a text. Assumes nothing.
 use mathlib.Core.Path.{_≡_, refl, sym, ap, subst, _∙_}
-use mathlib.Core.Bool.{Bool, true, false, cond, _&&_, _||_}
-use mathlib.Core.List.{List, [], _∷_, map}
+use mathlib.Core.Bool.{Bool, true, false, cond, _||_, or-true, and-eq-true-iff}
+use mathlib.Core.List.{List, [], _∷_}
 use mathlib.Core.Option.{Option, some, none}
-use Prim.Native.Nat.{ℕ, zero, suc, _+_, _-_, _*_, _^_, _≤_, _<_}
+use Prim.Native.Nat.{ℕ, zero, suc, _+_, _-_, _*_, _≤_, _<_}
 use native.Mathlib.Nat.{add-zero, pow-le-pow-right}
 use native.Mathlib.Decide.{decLe}
 use native.Mathlib.Omega.{arith}
 use borrow.Author.Tests.{lt-ltb, le-ltb, lt-leb, le-leb, eq-eqb, ne-eqb, ltb-true, leb-true}
 use lib.Dec.{ltb, leb, eqb}
-use lib.ListN.{length, take, drop, getD, length-map, length-drop, drop-of-length-le}
+use lib.ListN.{length, take, drop, getD, length-drop, drop-of-length-le}
 use lib.Seq.{drop-cons, getD-drop, length-take-le}
-use Rattle.octets.specs.BigEndian.{AllBelow, numberOf}
-use Rattle.octets.proofs.DigitLaws.{number-lt}
 use Rattle.digits.specs.declared.read.Leading.the-variants.{Number, Nothing}
-use Rattle.digits.specs.Numerals.{within, digitOf, allDigits, textNumber, atMost, boundedNumber, leadingZero, partOf, groupOf, digitCount, decimalOf, asLeading, leading}
+use Rattle.digits.specs.Numerals.{within, digitOf, textNumber, atMost, boundedNumber, leadingZero, partOf, groupOf, digitCount, decimalOf, asLeading, leading}
+use Rattle.digits.proofs.NumeralLaws.{number-bound}
 use Rattle.digits.proofs.LeadingLaws.{Scan, scan-start, scan-more, scan-stop, lead-number, lead-empty, count-le}
 
 -- ---- decimal digits
 
-and-left : (x y : Bool) → (x && y) ≡ true → x ≡ true
-and-left true y e = refl
-and-left false y e = e
-
-and-right : (x y : Bool) → (x && y) ≡ true → y ≡ true
-and-right true y e = e
-and-right false y e = let z : _≡_ {A = ℕ} 0 1 = cc in absurd (omega arith)
-
 within-from : (a b c : ℕ) → within a b c ≡ true → a ≤ c
-within-from a b c e = leb-true a c (and-left (leb a c) (leb c b) e)
+within-from a b c e = leb-true a c (and-eq-true-iff (leb a c) (leb c b) .0 e .0)
 
 digit-inside : (c : ℕ) → within 48 57 c ≡ true → digitOf c ≡ c - 48
 unfolding digitOf
@@ -121,10 +112,6 @@ no-start (c ∷ t) h = go (ltb (digitOf c) 10) refl h
     go false e h = refl
 
 -- ---- decimal parts
-
-or-true : (x : Bool) → (x || true) ≡ true
-or-true true = refl
-or-true false = refl
 
 zero-long : (n : ℕ) (t : List ℕ) → 2 ≤ n → n ≤ length t → leadingZero (take n t) ≡ eqb (getD t 0 0) 48
 unfolding leadingZero
@@ -226,23 +213,6 @@ module _ (t : List ℕ) where
             ]
 
 -- ---- groups
-
-digits-below : (base : ℕ) (t : List ℕ) → allDigits base t ≡ true → AllBelow base (map digitOf t)
-unfolding allDigits
-digits-below base [] e = tt
-digits-below base (c ∷ t) e = (ltb-true (digitOf c) base (and-left (ltb (digitOf c) base) (allDigits base t) e), digits-below base t (and-right (ltb (digitOf c) base) (allDigits base t) e))
-
--- n digits write less than the base to the power n
-pub number-bound : (base : ℕ) (t : List ℕ) (v : ℕ) → textNumber base t ≡ some v → v < base ^ length t
-unfolding textNumber
-number-bound base [] v e = let z : _≡_ {A = ℕ} 0 1 = cc in absurd (omega arith)
-number-bound base (c ∷ t) v e = go (allDigits base (c ∷ t)) refl e
-  where
-    go : (b : Bool) → allDigits base (c ∷ t) ≡ b → cond b (some (numberOf base (map digitOf (c ∷ t)))) none ≡ some v → v < base ^ suc (length t)
-    go true d e =
-        let same : numberOf base (map digitOf (c ∷ t)) ≡ v = cc in
-        subst (λ n. v < base ^ n) (length-map (c ∷ t) digitOf) (subst (λ x. x < base ^ length (map digitOf (c ∷ t))) same (number-lt base (map digitOf (c ∷ t)) (digits-below base (c ∷ t) d)))
-    go false d e = let z : _≡_ {A = ℕ} 0 1 = cc in absurd (omega arith)
 
 module _ (t : List ℕ) where
   -- a larger number has more than four digits

@@ -1,4 +1,4 @@
--- What a strict text of each family holds, so that no text is of both; and what groups are read. Assumes nothing.
+-- What a strict text of each family holds, so that no text is of both. Assumes nothing.
 use mathlib.Core.Path.{_≡_, refl, sym, ap, _∙_}
 use mathlib.Core.Bool.{Bool, true, false, cond}
 use mathlib.Core.List.{List, [], _∷_, append-nil}
