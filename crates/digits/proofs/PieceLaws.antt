@@ -1,6 +1,6 @@
 -- The first piece of a text, read off the digits that the text begins with. Assumes nothing.
 use mathlib.Core.Path.{_≡_, refl, sym, ap, _∙_}
-use mathlib.Core.Bool.{Bool, true, false, cond, _||_}
+use mathlib.Core.Bool.{Bool, true, false, cond, _||_, and-eq-true-iff}
 use mathlib.Core.List.{List, [], _∷_}
 use mathlib.Core.Option.{Option, some, none}
 use Prim.Native.Nat.{ℕ, zero, suc, _≤_, _<_}
@@ -9,10 +9,11 @@ use native.Mathlib.Omega.{arith}
 use borrow.Author.Tests.{eqb-true, leb-true, ltb-true, eq-eqb}
 use lib.Dec.{eqb, ltb, leb}
 use lib.ListN.{length, take, drop, getD}
-use lib.Seq.{take-all}
+use lib.Seq.{take-all, take-length}
 use Rattle.digits.specs.declared.read.Leading.the-variants.{Number, Nothing}
 use Rattle.digits.specs.Numerals.{digitOf, allDigits, textNumber, atMost, leadingZero, partOf, groupOf, digitCount, asLeading, leading}
 use Rattle.digits.specs.Pieces.{contains, indexOf, onFirst, splitOn}
+use Rattle.digits.proofs.LeadingLaws.{count-le}
 use Rattle.digits.proofs.NumeralLaws.{group-digits, part-digits}
 
 -- ---- pieces and the first separator
@@ -96,6 +97,45 @@ leading-says base f t v n h = go (f (take (digitCount base t) t)) (digitCount ba
     go : (o : Option ℕ) (k : ℕ) → Number v n ≡ asLeading o k → (o ≡ some v) × (k ≡ n)
     go none k e = let z : _≡_ {A = ℕ} 0 1 = cc in absurd (omega arith)
     go (some w) k e = (cc, cc)
+
+-- ---- a whole text of digits
+
+all-count : (base : ℕ) (t : List ℕ) → allDigits base t ≡ true → digitCount base t ≡ length t
+unfolding allDigits digitCount
+all-count base [] e = refl
+all-count base (c ∷ t) e =
+    let both = and-eq-true-iff (ltb (digitOf c) base) (allDigits base t) .0 e in
+    rw (both .0, all-count base t (both .1))
+
+module _ (base : ℕ) (f : List ℕ → Option ℕ) (only : ReadsDigits base f) (t : List ℕ) where
+  -- what f reads as a whole are all the digits
+  whole-front : (v : ℕ) → f t ≡ some v → (digitCount base t ≡ length t) × (f (take (digitCount base t) t) ≡ some v)
+  whole-front v e =
+      let n = all-count base t (only t v e) in
+      (n, rw (n, take-length t) e)
+
+  no-whole : ((v : ℕ) → f t ≡ some v → ⊥) → f t ≡ none
+  no-whole n = go (f t) refl
+    where
+      go : (o : Option ℕ) → f t ≡ o → o ≡ none
+      go none e = refl
+      go (some v) e = absurd (n v e)
+
+  pub whole-nothing : Nothing ≡ leading base f t → f t ≡ none
+  unfolding leading
+  whole-nothing h = no-whole λ v e. clash v (whole-front v e .1)
+    where
+      clash : (v : ℕ) → f (take (digitCount base t) t) ≡ some v → ⊥
+      clash v e = let g : Nothing ≡ Number v (digitCount base t) = h ∙ ap (λ o. asLeading o (digitCount base t)) e in let z : _≡_ {A = ℕ} 0 1 = cc in omega arith
+
+  module _ (v n : ℕ) (h : Number v n ≡ leading base f t) where
+    pub whole-short : n < length t → f t ≡ none
+    whole-short l = no-whole λ w e. omega (arith, whole-front w e .0, leading-says base f t v n h .1)
+
+    pub whole-number : length t ≤ n → (f t ≡ some v) × (n ≡ length t)
+    whole-number l =
+        let s = leading-says base f t v n h in
+        (ap f (sym (take-all (digitCount base t) t (omega (arith, s .1)))) ∙ s .0, omega (arith, s .1, count-le base t))
 
 -- ---- digits before a separator that is none
 

@@ -58,6 +58,12 @@ unfoldable pub groupOf : List ℕ → Option ℕ
 unfolding textNumber
 groupOf t = cond (ltb 4 (length t)) none (textNumber 16 t)
 
+-- whether a text begins with `0x` or `0X`
+unfoldable pub hexMarked : List ℕ → Bool
+hexMarked [] = false
+hexMarked (c ∷ []) = false
+hexMarked (c ∷ d ∷ t) = eqb c 48 && (eqb d 120 || eqb d 88)
+
 -- how many digits of the base a text begins with
 unfoldable pub digitCount : ℕ → List ℕ → ℕ
 digitCount base [] = 0

@@ -4,8 +4,8 @@ ghost use mathlib.Core.Bool.{cond};
 ghost use mathlib.Core.Option.{some};
 ghost use Prim.Native.Nat.{_<_, _^_};
 ghost use lib.Dec.{ltb};
-ghost use lib.ListN.{drop};
-ghost use Rattle.digits.specs.Numerals.{digitOf, atMost, boundedNumber, partOf, groupOf, decimalOf, asLeading, leading};
+ghost use lib.ListN.{drop, length};
+ghost use Rattle.digits.specs.Numerals.{digitOf, atMost, boundedNumber, partOf, groupOf, hexMarked, decimalOf, asLeading, leading};
 ghost use Rattle.digits.specs.declared.read.Leading.the-variants.{Number, Nothing};
 ghost use Rattle.digits.specs.Pieces.{indexOf};
 
@@ -130,6 +130,36 @@ pub fn leading_part(text: &[u8], most: u32) -> Leading
     let value = choose(c <= 9, two * 10 + (c as u32), two);
     let count = choose(c <= 9, 3, 2);
     at_most(value, count as usize, most)
+}
+
+// A whole text that is such a part: its number, and how many digits it has.
+pub fn whole_part(text: &[u8], most: u32) -> Leading
+    ensures { λ r. ⌜ r ≡ asLeading (partOf most (now (text .entry))) (length (now (text .entry))) ⌝ }
+{
+    let Leading::Number(value, count) = leading_part(text, most) else {
+        return Leading::Nothing;
+    };
+    if count < text.len() {
+        return Leading::Nothing;
+    }
+    Leading::Number(value, count)
+}
+
+// Whether a text begins with `0x` or `0X`.
+pub fn hex_marked(text: &[u8]) -> bool
+    ensures { λ r. ⌜ r ≡ hexMarked (now (text .entry)) ⌝ }
+{
+    if text.len() < 2 {
+        return false;
+    }
+    if text[0] != b'0' {
+        return false;
+    }
+    match text[1] {
+        b'x' => true,
+        b'X' => true,
+        _ => false,
+    }
 }
 
 // The length of the piece before the first `separator`; the whole length where there is none.

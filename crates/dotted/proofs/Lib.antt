@@ -1,2 +1,3 @@
--- DottedLaws: dotted text read part after part.
+-- EveryLaws: pieces that are read, each by itself. DottedLaws: dotted text read part after part.
+pub mod EveryLaws
 pub mod DottedLaws

@@ -1,46 +1,59 @@
 // IPv4 text: four decimal parts with dots, read and written.
 ghost use mathlib.Core.Path.{_≡_};
 ghost use Rattle.digits.specs.Placing.{Puts};
-ghost use Rattle.dotted.specs.Dotted.{asDotted, dottedOf, dottedText};
+ghost use Rattle.dotted.specs.Dotted.{asParts, partsOf, asDotted, dottedOf, dottedText};
 use digits::read::Leading;
 use digits::read::leading_part;
 use digits::write::put;
 use digits::write::put_decimal;
 
-// What a text is read as.
+// One to four parts of a text: the number that they write as octets, and how many they are.
+pub enum Parts {
+    Numbers(u32, usize),
+    NotParts,
+}
+
+// What a text of four parts is read as.
 pub enum Dotted {
     Value(u32),
     NotDotted,
+}
+
+// One to four decimal parts with dots between them.
+pub fn read_parts(text: &[u8]) -> Parts
+    ensures { λ r. ⌜ r ≡ asParts (partsOf (now (text .entry))) ⌝ }
+{
+    let mut rest = text;
+    let mut value: u32 = 0;
+    let mut n: usize = 0;
+    while n < 4 {
+        let Leading::Number(part, end) = leading_part(rest, 255) else {
+            return Parts::NotParts;
+        };
+        value = value * 256 + part;
+        n += 1;
+        if rest.len() <= end {
+            return Parts::Numbers(value, n);
+        }
+        if rest[end] != b'.' {
+            return Parts::NotParts;
+        }
+        rest = &rest[end + 1..];
+    }
+    Parts::NotParts
 }
 
 // The number of a strict IPv4 text.
 pub fn read_dotted(text: &[u8]) -> Dotted
     ensures { λ r. ⌜ r ≡ asDotted (dottedOf (now (text .entry))) ⌝ }
 {
-    let mut rest = text;
-    let mut value: u32 = 0;
-    let mut n: usize = 0;
-    while n < 3 {
-        let Leading::Number(part, end) = leading_part(rest, 255) else {
-            return Dotted::NotDotted;
-        };
-        if rest.len() <= end {
-            return Dotted::NotDotted;
-        }
-        if rest[end] != b'.' {
-            return Dotted::NotDotted;
-        }
-        value = value * 256 + part;
-        rest = &rest[end + 1..];
-        n += 1;
-    }
-    let Leading::Number(part, end) = leading_part(rest, 255) else {
+    let Parts::Numbers(value, count) = read_parts(text) else {
         return Dotted::NotDotted;
     };
-    if end < rest.len() {
+    if count < 4 {
         return Dotted::NotDotted;
     }
-    Dotted::Value(value * 256 + part)
+    Dotted::Value(value)
 }
 
 // Puts the four octets of a number in decimal, with dots between them, as far as there is room. Answers the next index.

@@ -17,14 +17,15 @@ use Rattle.octets.specs.BigEndian.{AllBelow, digitsOf}
 use Rattle.octets.specs.Octets.{groupsOf, groupsAddress}
 use Rattle.octets.proofs.Claims.{halves-of-groups}
 use Rattle.octets.proofs.DigitLaws.{digits-length, digits-number, digits-below, below-take, below-drop}
-use Rattle.digits.specs.Numerals.{digitOf, partOf, groupOf, decimal, hex}
+use Rattle.digits.specs.Numerals.{digitOf, groupOf, decimal, hex}
 use Rattle.digits.specs.Pieces.{contains}
-use Rattle.digits.proofs.NumeralLaws.{hex-group, decimal-part, no-digit, numeral-digits}
+use Rattle.digits.proofs.NumeralLaws.{hex-group, no-digit, numeral-digits}
 use Rattle.digits.proofs.SeparatedLaws.{Lacks, Each, lacks-append, lacks-separated}
 use Rattle.text.specs.Strict.{eightOf, strictOf, strictAnswer}
 use Rattle.text.proofs.FamilyLaws.{colon-not-dotted, eight-colon}
 use Rattle.text.proofs.SpellingLaws.{dotted-spelling, eight-spelling, gap-spelling}
 use Rattle.dotted.specs.Dotted.{dottedText, every, dottedOf}
+use Rattle.dotted.proofs.EveryLaws.{every-written, every-decimal}
 use Rattle.normal.specs.Runs.{ZeroRun, longestRun, firstRun}
 use Rattle.normal.specs.Normal.{groupsText, shortened, normalGroups, normalText}
 use Rattle.normal.proofs.RunLaws.{run-is}
@@ -32,17 +33,8 @@ use Rattle.normal.proofs.BoundLaws.{text-most}
 
 -- ---- numbers, each written and read
 
-every-written : (m : ℕ) (f : List ℕ → Option ℕ) (g : ℕ → List ℕ) → ((x : ℕ) → x < m → f (g x) ≡ some x)
-    → (xs : List ℕ) → AllBelow m xs → every f (map g xs) ≡ some xs
-unfolding every
-every-written m f g h [] l = refl
-every-written m f g h (x ∷ xs) l = rw (h x (l .0), every-written m f g h xs (l .1))
-
 every-hex : (gs : List ℕ) → AllBelow 65536 gs → every groupOf (map hex gs) ≡ some gs
 every-hex = every-written 65536 groupOf hex hex-group
-
-every-decimal : (xs : List ℕ) → AllBelow 256 xs → every (partOf 255) (map decimal xs) ≡ some xs
-every-decimal = every-written 256 (partOf 255) decimal λ x h. decimal-part 255 x (omega arith) (omega arith)
 
 -- ---- groups
 

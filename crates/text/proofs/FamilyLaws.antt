@@ -18,7 +18,8 @@ use Rattle.digits.proofs.NumeralLaws.{no-digit, part-digits}
 use Rattle.digits.proofs.SeparatedLaws.{Lacks, Each, lacks-split, split-lacks}
 use Rattle.dotted.specs.Dotted.{single, every, dottedOf}
 use Rattle.text.specs.Strict.{orElse, piecesOf, gapOf, eight, eightOf, strictOf}
-use Rattle.text.proofs.SpellingLaws.{every-reads, reads-each, gap-piece}
+use Rattle.text.proofs.SpellingLaws.{gap-piece}
+use Rattle.dotted.proofs.EveryLaws.{every-reads, reads-each}
 
 -- ---- IPv4
 

@@ -21,7 +21,7 @@ use Rattle.digits.proofs.NumeralLaws.{group-digits}
 use Rattle.digits.proofs.PieceLaws.{part-most}
 use Rattle.dotted.specs.Dotted.{joined, single, every, dottedOf}
 use Rattle.text.specs.Strict.{orElse, tailOf, piecesOf, sideOf, gapOf, filled, eight, eightOf, strictOf}
-use Rattle.text.proofs.SpellingLaws.{Reads, done, more, every-reads, reads-length}
+use Rattle.dotted.proofs.EveryLaws.{Reads, done, more, every-reads, reads-length}
 
 -- ---- groups
 

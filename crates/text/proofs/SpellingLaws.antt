@@ -2,7 +2,7 @@
 use mathlib.Core.Path.{_≡_, refl, sym, ap, _∙_}
 use mathlib.Core.Bool.{Bool, true, false}
 use mathlib.Core.List.{List, [], _∷_, _++_, append-assoc, append-nil}
-use mathlib.Core.Option.{Option, some, none}
+use mathlib.Core.Option.{some}
 use Prim.Native.Nat.{ℕ, suc, _+_, _-_, _≤_, _<_}
 use native.Mathlib.Omega.{arith}
 use borrow.Author.Tests.{eq-eqb, le-leb, lt-ltb, le-ltb}
@@ -12,44 +12,13 @@ use lib.Seq.{take-append-seam, drop-append-add}
 use Rattle.octets.specs.BigEndian.{numberOf}
 use Rattle.digits.specs.Numerals.{digitOf, partOf, groupOf}
 use Rattle.digits.specs.Pieces.{separated, splitOn}
-use Rattle.digits.proofs.NumeralLaws.{no-digit, group-digits, part-digits}
+use Rattle.digits.proofs.NumeralLaws.{no-digit, group-digits}
 use Rattle.digits.proofs.SeparatedLaws.{Lacks, Each, lacks-cons, split-separated, separated-cons}
-use Rattle.dotted.specs.Dotted.{joined, single, every, dottedOf}
+use Rattle.dotted.specs.Dotted.{single, every, dottedOf}
+use Rattle.dotted.proofs.EveryLaws.{Reads, done, more, every-reads, reads-each, reads-length, part-lacks}
 use Rattle.text.specs.Strict.{piecesOf, sideOf, gapOf, eightOf}
 
--- ---- pieces that are read
-
--- f reads the pieces as the numbers
-pub data Reads (f : List ℕ → Option ℕ) : List (List ℕ) → List ℕ → Type 0 where
-  done : Reads f [] []
-  more : {p : List ℕ} {x : ℕ} {ps : List (List ℕ)} {xs : List ℕ} → f p ≡ some x → Reads f ps xs → Reads f (p ∷ ps) (x ∷ xs)
-
-pub every-reads : (f : List ℕ → Option ℕ) (ps : List (List ℕ)) (xs : List ℕ) → every f ps ≡ some xs → Reads f ps xs
-unfolding every
-every-reads f [] [] e = done
-every-reads f [] (x ∷ xs) e = let z : _≡_ {A = ℕ} 0 1 = cc in absurd (omega arith)
-every-reads f (p ∷ ps) xs e = go (f p) (every f ps) xs refl refl e (every-reads f ps)
-  where
-    go : (o : Option ℕ) (os : Option (List ℕ)) (xs : List ℕ) → f p ≡ o → every f ps ≡ os → joined (single o) os ≡ some xs
-        → ((ys : List ℕ) → every f ps ≡ some ys → Reads f ps ys) → Reads f (p ∷ ps) xs
-    go none os xs q r k ih = let z : _≡_ {A = ℕ} 0 1 = cc in absurd (omega arith)
-    go (some x) none xs q r k ih = let z : _≡_ {A = ℕ} 0 1 = cc in absurd (omega arith)
-    go (some x) (some ys) xs q r k ih = let s : x ∷ ys ≡ xs = cc in rw (← s) (more q (ih ys r))
-
-module _ {f : List ℕ → Option ℕ} where
-  pub reads-each : {P : List ℕ → Type 0} {ps : List (List ℕ)} {xs : List ℕ} → ((p : List ℕ) (x : ℕ) → f p ≡ some x → P p) → Reads f ps xs → Each P ps
-  reads-each h done = tt
-  reads-each h (more {p} {x} e r) = (h p x e, reads-each h r)
-
-  pub reads-length : {ps : List (List ℕ)} {xs : List ℕ} → Reads f ps xs → length ps ≡ length xs
-  reads-length done = refl
-  reads-length (more e r) = ap suc (reads-length r)
-
 -- ---- IPv4
-
-part-lacks : (p : List ℕ) (x : ℕ) → partOf 255 p ≡ some x → Lacks 46 p
-unfolding digitOf
-part-lacks p x e = no-digit 10 46 p (lit≤ tt) refl (part-digits 255 p x e .all)
 
 -- four parts with single dots
 pub dotted-spelling : (ps : List (List ℕ)) (xs : List ℕ) → every (partOf 255) ps ≡ some xs → length xs ≡ 4 → dottedOf (separated 46 ps) ≡ some (numberOf 256 xs)

@@ -1,179 +1,49 @@
--- `dotted::read_dotted` meets its contract. The invariant: the text says what its rest says after the parts that were read.
--- Assumes nothing.
-use mathlib.Core.Path.{_≡_, sym, _∙_}
-use Prim.Native.Nat.{_+_, _-_, _^_, _≤_, _<_}
-use native.Mathlib.Nat.{pow-suc}
-use native.Mathlib.Numerals.{add-one}
+-- `dotted::read_dotted` meets its contract. Assumes nothing.
+use mathlib.Core.Path.{sym, ap, _∙_}
 use native.Mathlib.Omega.{arith}
+use borrow.Author.Tests.{eq-eqb, ne-eqb}
 use borrow.Author.Needs.{needs}
 use denote.Ref.{now}
-use lib.Arith.{digits-lt}
 use lib.ListN.{length}
-use Rattle.digits.specs.declared.read.Leading.the-variants.{Number}
-use Rattle.digits.specs.Numerals.{partOf, leading}
-use Rattle.digits.specs.Pieces.{splitOn}
-use Rattle.digits.proofs.SliceLaws.{to-end-shorter}
-use Rattle.dotted.specs.Dotted.{dottedOf}
-use Rattle.dotted.proofs.DottedLaws.{partsFrom, parts-start, parts-nothing, parts-few, parts-other, parts-more, parts-over, parts-end, part-small, room}
+use Rattle.dotted.specs.Dotted.{partsOf, asDotted}
+use Rattle.dotted.proofs.DottedLaws.{numbers-says, not-parts-says, parts-octets, dotted-parts, dotted-none}
 use Rattle.dotted.proofs.read_dotted.Statement.{statement}
 use Rattle.dotted.proofs.read_dotted.Tie as tie
 
-abbrev Inv-loop : tie.InvT-loop
-Inv-loop text rest₀ value₀ n₀ rest value n =
-    (n ≤ 3) × (length rest ≤ length text) × (value < 256 ^ n) × (dottedOf text ≡ partsFrom n value (splitOn 46 rest))
+read-parts-requires : tie.Need-read-parts-requires
+read-parts-requires c κs = search needs
 
-abbrev μ-loop : tie.MeasureT-loop
-μ-loop text rest₀ value₀ n₀ rest value n = 3 - n
+enum-known-value : tie.Need-enum-known-value
+enum-known-value c = search needs
 
-loop-holds : tie.Need-loop-holds Inv-loop μ-loop
-loop-holds c = (omega arith, omega arith, omega arith, parts-start (now (c .before .args .text)))
-
-leading-part-requires : tie.Need-leading-part-requires Inv-loop μ-loop
-leading-part-requires c κs = search needs
-
-enum-known-part : tie.Need-enum-known-part Inv-loop μ-loop
-enum-known-part c = search needs
-
-enum-told : tie.Need-enum-told Inv-loop μ-loop
+enum-told : tie.Need-enum-told
 enum-told c = search needs
 
-returns : tie.Need-returns Inv-loop μ-loop
+returns : tie.Need-returns
 returns c =
-    let l = c .before .before .before .before .loop in
-    rw (l .inv .3, parts-nothing (l .n) (l .value) (now (l .rest)) (sym (c .enum-told .given .1) ∙ c .before .before .leading-part .ensures))
+    let p = c .before .before in
+    let t = now (p .before .before .args .text) in
+    sym (ap asDotted (dotted-none t (not-parts-says (partsOf t) (sym (c .enum-told .given .1) ∙ p .read-parts .ensures))))
 
--- what the part that was found says, in the loop and behind it
-read : (c : tie.After-part Inv-loop μ-loop) → Number (c .part .given .0 .0) (c .part .given .0 .1 .0) ≡ leading 10 (partOf 255) (now (c .before .before .before .before .loop .rest))
-read c = sym (c .part .given .1) ∙ c .before .before .leading-part .ensures
-
-small : (c : tie.After-part Inv-loop μ-loop) → c .part .given .0 .0 ≤ 255
-small c = part-small (now (c .before .before .before .before .loop .rest)) (c .part .given .0 .0) (c .part .given .0 .1 .0) (read c)
-
-returns-2 : tie.Need-returns-2 Inv-loop μ-loop
+returns-2 : tie.Need-returns-2
 returns-2 c =
-    let p = c .before .before in
-    let l = p .before .before .before .before .loop in
-    rw (l .inv .3, parts-few (l .n) (l .value) (now (l .rest)) (p .part .given .0 .0) (p .part .given .0 .1 .0) (read p) (omega arith) (omega arith))
+    let v = c .before .before in
+    let p = v .before .before in
+    let t = now (p .before .before .args .text) in
+    let s = numbers-says (partsOf t) _ _ (sym (v .value .given .1) ∙ p .read-parts .ensures) in
+    let few = s .3 in
+    sym (ap asDotted (dotted-parts t (s .0) (s .1)) ∙ rw (ne-eqb (length (s .0)) 4 (omega arith)))
 
-shared-slice-read-if2 : tie.Need-shared-slice-read-if2 Inv-loop μ-loop
-shared-slice-read-if2 c = omega arith
-
-returns-3 : tie.Need-returns-3 Inv-loop μ-loop
+returns-3 : tie.Need-returns-3
 returns-3 c =
-    let p = c .before .before .before .before in
-    let l = p .before .before .before .before .loop in
-    rw (l .inv .3, parts-other (l .n) (l .value) (now (l .rest)) (p .part .given .0 .0) (p .part .given .0 .1 .0) (read p) (omega arith) (c .if2 .taken))
-
-mul-value : tie.Need-mul-value Inv-loop μ-loop
-mul-value c =
-    let l = c .before .before .before .before .before .before .before .before .loop in
-    omega (arith, room (l .n) (l .value) (l .inv .0) (l .inv .2))
-
-add-value : tie.Need-add-value Inv-loop μ-loop
-add-value c =
-    let p = c .before .before .before .before in
-    let l = p .before .before .before .before .loop in
-    omega (arith, room (l .n) (l .value) (l .inv .0) (l .inv .2), small p)
-
-add-rest : tie.Need-add-rest Inv-loop μ-loop
-add-rest c = omega arith
-
-sub-rest : tie.Need-sub-rest Inv-loop μ-loop
-sub-rest c = omega arith
-
-part-rest-start : tie.Need-part-rest-start Inv-loop μ-loop
-part-rest-start c = omega arith
-
-part-rest-end : tie.Need-part-rest-end Inv-loop μ-loop
-part-rest-end c = search needs
-
-add-n : tie.Need-add-n Inv-loop μ-loop
-add-n c = omega arith
-
-loop-less : tie.Need-loop-less Inv-loop μ-loop
-loop-less c = omega arith
-
-loop-again : tie.Need-loop-again Inv-loop μ-loop
-loop-again c =
-    let p = c .before .before .before .before .before in
-    let l = p .before .before .before .before .loop in
-    let e = p .part .given .0 .1 .0 in (
-      omega arith,
-      to-end-shorter (e + 1) _ (now (l .rest)) (l .inv .1),
-      rw (add-one (l .n), pow-suc 256 (l .n)) (digits-lt (l .inv .2) (omega (arith, small p))),
-      l .inv .3 ∙ parts-more (l .n) (l .value) (now (l .rest)) (p .part .given .0 .0) e (read p) (omega arith) (c .before .if2 .left),
-    )
-
-leading-part-requires-2 : tie.Need-leading-part-requires-2 Inv-loop μ-loop
-leading-part-requires-2 c κs = search needs
-
-enum-known-part-2 : tie.Need-enum-known-part-2 Inv-loop μ-loop
-enum-known-part-2 c = search needs
-
-enum-told-2 : tie.Need-enum-told-2 Inv-loop μ-loop
-enum-told-2 c = search needs
-
-returns-4 : tie.Need-returns-4 Inv-loop μ-loop
-returns-4 c =
-    let l = c .before .before .before .before .loop in
-    rw (l .inv .3, parts-nothing (l .n) (l .value) (now (l .rest)) (sym (c .enum-told2 .given .1) ∙ c .before .before .leading-part2 .ensures))
-
-read-last : (c : tie.After-part2 Inv-loop μ-loop) → Number (c .part2 .given .0 .0) (c .part2 .given .0 .1 .0) ≡ leading 10 (partOf 255) (now (c .before .before .before .before .loop .rest))
-read-last c = sym (c .part2 .given .1) ∙ c .before .before .leading-part2 .ensures
-
-returns-5 : tie.Need-returns-5 Inv-loop μ-loop
-returns-5 c =
-    let p = c .before .before in
-    let l = p .before .before .before .before .loop in
-    let three : l .n ≡ 3 = omega arith in
-    rw (l .inv .3, three, parts-over (l .value) (now (l .rest)) (p .part2 .given .0 .0) (p .part2 .given .0 .1 .0) (read-last p) (omega arith))
-
-mul-t21 : tie.Need-mul-t21 Inv-loop μ-loop
-mul-t21 c =
-    let l = c .before .before .before .before .before .before .loop in
-    omega (arith, room (l .n) (l .value) (l .inv .0) (l .inv .2))
-
-add-t22 : tie.Need-add-t22 Inv-loop μ-loop
-add-t22 c =
-    let p = c .before .before in
-    let l = p .before .before .before .before .loop in
-    omega (arith, room (l .n) (l .value) (l .inv .0) (l .inv .2), part-small (now (l .rest)) (p .part2 .given .0 .0) (p .part2 .given .0 .1 .0) (read-last p))
-
-returns-6 : tie.Need-returns-6 Inv-loop μ-loop
-returns-6 c =
-    let p = c .before .before in
-    let l = p .before .before .before .before .loop in
-    let three : l .n ≡ 3 = omega arith in
-    rw (l .inv .3, three, parts-end (l .value) (now (l .rest)) (p .part2 .given .0 .0) (p .part2 .given .0 .1 .0) (read-last p) (omega arith))
+    let v = c .before .before in
+    let p = v .before .before in
+    let t = now (p .before .before .args .text) in
+    let s = numbers-says (partsOf t) _ _ (sym (v .value .given .1) ∙ p .read-parts .ensures) in
+    let few = s .3 in
+    let o = parts-octets t (s .0) (s .1) in
+    rw (s .2) (sym (ap asDotted (dotted-parts t (s .0) (s .1)) ∙ rw (eq-eqb (length (s .0)) 4 (omega (arith, o .most)))))
 
 pub read-dotted-spec : {M : Type 1} → statement M
 read-dotted-spec =
-    tie.close
-    (tie.spec
-    Inv-loop
-    μ-loop
-    loop-holds
-    leading-part-requires
-    enum-known-part
-    enum-told
-    returns
-    returns-2
-    shared-slice-read-if2
-    returns-3
-    mul-value
-    add-value
-    add-rest
-    sub-rest
-    part-rest-start
-    part-rest-end
-    add-n
-    loop-less
-    loop-again
-    leading-part-requires-2
-    enum-known-part-2
-    enum-told-2
-    returns-4
-    returns-5
-    mul-t21
-    add-t22
-    returns-6)
+    tie.close (tie.spec read-parts-requires enum-known-value enum-told returns returns-2 returns-3)
