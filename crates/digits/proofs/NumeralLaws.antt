@@ -152,7 +152,7 @@ no-digit base b (c ∷ t) h n e =
     let both = and-eq-true-iff (ltb (digitOf c) base) (allDigits base t) .0 e in
     rw (ne-eqb c b λ same. omega (arith, ltb-true (digitOf c) base (both .0), ap digitOf same)) (no-digit base b t h n (both .1))
 
-digit-values : (base : ℕ) (t : List ℕ) → allDigits base t ≡ true → AllBelow base (map digitOf t)
+pub digit-values : (base : ℕ) (t : List ℕ) → allDigits base t ≡ true → AllBelow base (map digitOf t)
 unfolding allDigits
 digit-values base [] e = tt
 digit-values base (c ∷ t) e =

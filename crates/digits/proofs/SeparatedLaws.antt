@@ -1,13 +1,16 @@
 -- Pieces with separators between them, and split again. Assumes nothing.
 use mathlib.Core.Path.{_≡_, refl, ap, _∙_}
 use mathlib.Core.Bool.{Bool, true, false, cond, _||_}
-use mathlib.Core.List.{List, [], _∷_, _++_}
-use Prim.Native.Nat.{ℕ, _<_}
+use mathlib.Core.List.{List, [], _∷_, _++_, map}
+use Prim.Native.Nat.{ℕ, suc, _-_, _*_, _≤_, _<_}
+use native.Mathlib.Nat.{mul-suc, mul-one}
 use native.Mathlib.Omega.{arith}
 use borrow.Author.Tests.{eq-eqb, eqb-true}
 use lib.Dec.{eqb}
-use lib.ListN.{length}
-use Rattle.digits.specs.Pieces.{contains, onFirst, splitOn, separated}
+use lib.ListN.{length, length-append}
+use Rattle.digits.specs.Pieces.{contains, indexOf, onFirst, splitOn, separated}
+use Rattle.digits.specs.Numerals.{numeral}
+use Rattle.digits.proofs.NumeralLaws.{numeral-length}
 
 abbrev pub Lacks : ℕ → List ℕ → Type 0
 Lacks b t = contains b t ≡ false
@@ -58,11 +61,29 @@ module _ (b : ℕ) where
   split-separated (p ∷ []) any h = split-lacks p (h .0)
   split-separated (p ∷ q ∷ ps) any h = split-after p (separated b (q ∷ ps)) (h .0) ∙ ap (λ qs. p ∷ qs) (split-separated (q ∷ ps) (omega arith) (h .1))
 
+  -- the first b comes behind a text that holds none
+  pub index-seam : (s t : List ℕ) → Lacks b s → indexOf b (s ++ b ∷ t) ≡ length s
+  unfolding indexOf
+  index-seam [] t h = rw (eq-eqb b b refl)
+  index-seam (x ∷ s) t h = let l = lacks-cons b x s h in rw (l .0, index-seam s t (l .1))
+
   -- a byte more before the pieces
   pub separated-cons : (x : ℕ) (p : List ℕ) (ps : List (List ℕ)) → separated b ((x ∷ p) ∷ ps) ≡ x ∷ separated b (p ∷ ps)
   unfolding separated
   separated-cons x p [] = refl
   separated-cons x p (q ∷ ps) = refl
+
+-- ---- how long numerals are with separators between them
+
+-- at most k digits each, and a separator between two
+module _ (base k b : ℕ) (h : base ≤ 16) (pos : 0 < base) (one : 1 ≤ k) where
+  pub numerals-most : (xs : List ℕ) → length (separated b (map (numeral base k) xs)) ≤ suc k * length xs - 1
+  unfolding separated
+  numerals-most [] = omega arith
+  numerals-most (x ∷ []) = omega (arith, mul-one (suc k), numeral-length base k x h pos one)
+  numerals-most (x ∷ y ∷ xs) =
+      let rest = separated b (map (numeral base k) (y ∷ xs)) in
+      omega (arith, length-append (numeral base k x) (b ∷ rest), numeral-length base k x h pos one, numerals-most (y ∷ xs), mul-suc (suc k) (suc (length xs)), mul-suc (suc k) (length xs))
 
 -- ---- what no piece holds, the text does not hold
 

@@ -162,6 +162,22 @@ dotted-none t e = go (eqb (length (splitOn 46 t)) 4) refl (every (partOf 255) (s
         rw same
     go false q o k = refl
 
+-- what a text of four parts is read as
+pub dotted-octets : (t : List ℕ) (v : ℕ) → dottedOf t ≡ some v → (xs : List ℕ) × Octets t xs × (length xs ≡ 4) × (numberOf 256 xs ≡ v)
+dotted-octets t v e = go (partsOf t) refl
+  where
+    none-some : _≡_ {A = Option ℕ} none (some v) → ⊥
+    none-some k = let z : _≡_ {A = ℕ} 0 1 = cc in omega arith
+
+    four : (xs : List ℕ) → Octets t xs → (b : Bool) → eqb (length xs) 4 ≡ b → cond b (some (numberOf 256 xs)) none ≡ some v
+        → (ys : List ℕ) × Octets t ys × (length ys ≡ 4) × (numberOf 256 ys ≡ v)
+    four xs o true q k = (xs, o, eqb-true (length xs) 4 q, cc)
+    four xs o false q k = absurd (none-some k)
+
+    go : (o : Option (List ℕ)) → partsOf t ≡ o → (xs : List ℕ) × Octets t xs × (length xs ≡ 4) × (numberOf 256 xs ≡ v)
+    go none q = absurd (none-some (sym (dotted-none t q) ∙ e))
+    go (some xs) q = four xs (parts-octets t xs q) (eqb (length xs) 4) refl (sym (dotted-parts t xs q) ∙ e)
+
 -- what an answer says of the definition
 pub numbers-says : (o : Option (List ℕ)) (v n : ℕ) → Numbers v n ≡ asParts o → (xs : List ℕ) × (o ≡ some xs) × (v ≡ numberOf 256 xs) × (n ≡ length xs)
 numbers-says none v n e = let z : _≡_ {A = ℕ} 0 1 = cc in absurd (omega arith)

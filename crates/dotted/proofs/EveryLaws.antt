@@ -43,6 +43,12 @@ module _ {f : List ℕ → Option ℕ} where
   reads-below m h done = tt
   reads-below m h (more {p} {x} e r) = (h p x e, reads-below m h r)
 
+-- what reads all that f reads as f does
+pub reads-so : {f g : List ℕ → Option ℕ} {ps : List (List ℕ)} {xs : List ℕ} → ((p : List ℕ) (x : ℕ) → f p ≡ some x → g p ≡ some x) → Reads f ps xs → every g ps ≡ some xs
+unfolding every
+reads-so h done = refl
+reads-so h (more {p} {x} e r) = rw (h p x e, reads-so h r)
+
 -- ---- numbers, each written and read
 
 pub every-written : (m : ℕ) (f : List ℕ → Option ℕ) (g : ℕ → List ℕ) → ((x : ℕ) → x < m → f (g x) ≡ some x)

@@ -1,9 +1,8 @@
 -- How long a normal text is at most. Assumes nothing.
 use mathlib.Core.Path.{_≡_, refl}
 use mathlib.Core.Bool.{Bool, true, false, cond}
-use mathlib.Core.List.{List, [], _∷_, map}
-use Prim.Native.Nat.{ℕ, suc, _+_, _-_, _*_, _≤_, _<_}
-use native.Mathlib.Nat.{mul-suc, mul-one}
+use mathlib.Core.List.{List, _∷_}
+use Prim.Native.Nat.{ℕ, _+_, _-_, _*_, _≤_}
 use native.Mathlib.Omega.{arith}
 use borrow.Author.Tests.{ltb-false}
 use lib.Dec.{ltb, lit≤, lit<}
@@ -15,23 +14,11 @@ use Rattle.address.specs.Addresses.{number}
 use Rattle.octets.specs.BigEndian.{digitsOf}
 use Rattle.octets.specs.Octets.{groupsOf}
 use Rattle.octets.proofs.DigitLaws.{digits-length}
-use Rattle.digits.specs.Numerals.{numeral}
-use Rattle.digits.specs.Pieces.{separated}
-use Rattle.digits.proofs.NumeralLaws.{numeral-length}
+use Rattle.digits.proofs.SeparatedLaws.{numerals-most}
 use Rattle.dotted.specs.Dotted.{dottedText}
 use Rattle.normal.specs.Runs.{longestRun, firstRun}
 use Rattle.normal.specs.Normal.{groupsText, shortened, normalGroups, normalText}
 use Rattle.normal.proofs.RunLaws.{run-is}
-
--- numerals of at most k digits, and a separator between two
-module _ (base k b : ℕ) (h : base ≤ 16) (pos : 0 < base) (one : 1 ≤ k) where
-  numerals-most : (xs : List ℕ) → length (separated b (map (numeral base k) xs)) ≤ suc k * length xs - 1
-  unfolding separated
-  numerals-most [] = omega arith
-  numerals-most (x ∷ []) = omega (arith, mul-one (suc k), numeral-length base k x h pos one)
-  numerals-most (x ∷ y ∷ xs) =
-      let rest = separated b (map (numeral base k) (y ∷ xs)) in
-      omega (arith, length-append (numeral base k x) (b ∷ rest), numeral-length base k x h pos one, numerals-most (y ∷ xs), mul-suc (suc k) (suc (length xs)), mul-suc (suc k) (length xs))
 
 pub text-4-most : (v : ℕ) → length (normalText (V4 v)) ≤ 15
 unfolding normalText dottedText

@@ -2,11 +2,12 @@
 use mathlib.Core.Path.{_≡_, refl, sym, ap, ap₂, subst, _∙_}
 use mathlib.Core.List.{List, [], _∷_, _++_, append-assoc, append-nil}
 use Prim.Native.Nat.{ℕ, zero, suc, _+_, _*_, _/_, _%_, _^_, _≤_, _<_}
-use native.Mathlib.Nat.{add-zero, add-suc, zero-mul, mul-assoc, add-mul, mul-comm, mul-pos, mul-one, pow-suc, pow-succ', pow-zero, div-add-mod', mod-lt, mod-eq-of-lt, div-lt-iff-lt-mul, div-div-eq-div-mul}
+use native.Mathlib.Nat.{add-zero, add-suc, zero-mul, zero-div, zero-mod, mul-assoc, add-mul, mul-comm, mul-pos, mul-one, mul-zero, mul-suc, pow-suc, pow-succ', pow-zero, div-add-mod', mod-lt, mod-eq-of-lt, div-lt-iff-lt-mul, div-div-eq-div-mul}
 use native.Mathlib.Numerals.{add-one, one-add}
 use native.Mathlib.Omega.{arith}
 use lib.Arith.{digits-lt, digits-div, digits-mod}
-use lib.ListN.{length, getD, take, drop, length-append, length-drop, take-append-drop}
+use lib.ListN.{length, getD, take, drop, replicate, length-append, length-drop, take-append-drop, replicate-append-replicate}
+use lib.Pow.{pow-add}
 use lib.Seq.{drop-cons, length-take-le, take-at, drop-at}
 use Rattle.octets.specs.BigEndian.{AllBelow, digitsOf, numberFrom, numberOf}
 
@@ -45,6 +46,9 @@ pub number-lt : (base : ℕ) (ds : List ℕ) → AllBelow base ds → numberOf b
 unfolding numberOf
 number-lt base [] h = omega (arith, pow-zero base)
 number-lt base (d ∷ ds) h = rw (number-cons base d ds, pow-succ' base (length ds)) (digits-lt (h .0) (number-lt base ds (h .1)))
+
+pub number-below : (base n : ℕ) (ds : List ℕ) → length ds ≡ n → AllBelow base ds → numberOf base ds < base ^ n
+number-below base n ds l h = subst (λ (k : ℕ). numberOf base ds < base ^ k) l (number-lt base ds h)
 
 module _ (base : ℕ) (pos : 0 < base) where
   -- the digits of x write x
@@ -103,6 +107,31 @@ below-drop base zero ds h = h
 below-drop base (suc n) [] h = tt
 below-drop base (suc n) (d ∷ ds) h = below-drop base n ds (h .1)
 
+-- ---- zeros and powers
+
+pub digits-zero : (base n : ℕ) → digitsOf base n 0 ≡ replicate n 0
+unfolding digitsOf
+digits-zero base zero = refl
+digits-zero base (suc n) = rw (zero-div base, zero-mod base, digits-zero base n) (replicate-append-replicate n 1 0 ∙ ap (λ (k : ℕ). replicate k 0) (add-one n))
+
+pub zeros-number : (base m : ℕ) → numberOf base (replicate m 0) ≡ 0
+unfolding numberOf
+zeros-number base zero = refl
+zeros-number base (suc m) = number-cons base 0 (replicate m 0) ∙ omega (arith, zeros-number base m)
+
+pub zeros-below : (base m : ℕ) → 0 < base → AllBelow base (replicate m 0)
+zeros-below base zero h = tt
+zeros-below base (suc m) h = (h, zeros-below base m h)
+
+-- m digits of b bits
+pub bits-power : (b m : ℕ) → (2 ^ b) ^ m ≡ 2 ^ (b * m)
+bits-power b zero = pow-zero (2 ^ b) ∙ ap (λ (k : ℕ). 2 ^ k) (sym (mul-zero b))
+bits-power b (suc m) =
+    pow-suc (2 ^ b) m
+    ∙ ap (λ (x : ℕ). x * 2 ^ b) (bits-power b m)
+    ∙ sym (pow-add 2 (b * m) b)
+    ∙ ap (λ (k : ℕ). 2 ^ k) (sym (mul-suc b m))
+
 -- ---- numbers in two halves of n digits each
 
 module _ (base n : ℕ) (pos : 0 < base) where
@@ -126,7 +155,7 @@ module _ (base n : ℕ) (pos : 0 < base) where
       let ll : length ls ≡ n = omega (arith, length-drop n ds) in
       let hd : digitsOf base n (numberOf base hs) ≡ hs = ap (λ (k : ℕ). digitsOf base k (numberOf base hs)) (sym hl) ∙ number-digits base pos hs (below-take base n ds h) in
       let ld : digitsOf base n (numberOf base ls) ≡ ls = ap (λ (k : ℕ). digitsOf base k (numberOf base ls)) (sym ll) ∙ number-digits base pos ls (below-drop base n ds h) in
-      let small : numberOf base ls < base ^ n = subst (λ (k : ℕ). numberOf base ls < base ^ k) ll (number-lt base ls (below-drop base n ds h)) in
+      let small = number-below base n ls ll (below-drop base n ds h) in
       digits-split base pos n n (numberOf base hs) (numberOf base ls) small ∙ ap₂ _++_ hd ld ∙ take-append-drop n ds
 
 -- ---- four digits, as the code writes and reads them

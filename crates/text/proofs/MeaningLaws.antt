@@ -3,7 +3,7 @@ use mathlib.Core.Path.{_≡_, refl, subst}
 use mathlib.Core.Bool.{Bool, true, false, cond}
 use mathlib.Core.List.{List, [], _∷_, _++_}
 use mathlib.Core.Option.{Option, some, none, Option·map}
-use Prim.Native.Nat.{ℕ, zero, suc, _+_, _-_, _^_, _<_}
+use Prim.Native.Nat.{ℕ, _+_, _-_, _^_, _<_}
 use native.Mathlib.Omega.{arith}
 use borrow.Author.Tests.{eqb-true, leb-true}
 use lib.Dec.{eqb, leb, ltb, lit<}
@@ -12,16 +12,15 @@ use lib.Seq.{length-take-le}
 use Rattle.address.specs.declared.Address.{Address}
 use Rattle.address.specs.declared.Address.the-variants.{V4}
 use Rattle.address.specs.Addresses.{IsAddress}
-use Rattle.octets.specs.BigEndian.{AllBelow, numberOf, digitsOf}
+use Rattle.octets.specs.BigEndian.{AllBelow, digitsOf}
 use Rattle.octets.specs.Octets.{groupsAddress}
-use Rattle.octets.proofs.DigitLaws.{below-append, digits-below, number-lt, below-take, below-drop}
-use Rattle.digits.specs.Numerals.{partOf, groupOf}
+use Rattle.octets.proofs.DigitLaws.{below-append, zeros-below, digits-below, number-below, below-take, below-drop}
+use Rattle.digits.specs.Numerals.{groupOf}
 use Rattle.digits.specs.Pieces.{splitOn}
 use Rattle.digits.proofs.NumeralLaws.{group-digits}
-use Rattle.digits.proofs.PieceLaws.{part-most}
-use Rattle.dotted.specs.Dotted.{joined, single, every, dottedOf}
+use Rattle.dotted.specs.Dotted.{joined, single, dottedOf}
 use Rattle.text.specs.Strict.{orElse, tailOf, piecesOf, sideOf, gapOf, filled, eight, eightOf, strictOf}
-use Rattle.dotted.proofs.EveryLaws.{Reads, done, more, every-reads, reads-length}
+use Rattle.dotted.proofs.DottedLaws.{dotted-octets}
 
 -- ---- groups
 
@@ -71,10 +70,6 @@ record Eight (gs : List ℕ) : Type 0 where
   count : length gs ≡ 8
   small : AllBelow 65536 gs
 
-zeros-below : (n : ℕ) → AllBelow 65536 (replicate n 0)
-zeros-below zero = tt
-zeros-below (suc n) = (lit< tt, zeros-below n)
-
 filled-eight : (a b : Option (List ℕ)) (gs : List ℕ) → AllGroups a → AllGroups b → filled a b ≡ some gs → Eight gs
 filled-eight none b gs g h e = let z : _≡_ {A = ℕ} 0 1 = cc in absurd (omega arith)
 filled-eight (some xs) none gs g h e = let z : _≡_ {A = ℕ} 0 1 = cc in absurd (omega arith)
@@ -89,7 +84,7 @@ filled-eight (some xs) (some ys) gs g h e = go (leb (length xs + length ys) 7) r
         let is : xs ++ (replicate n 0 ++ ys) ≡ gs = cc in
         subst Eight is (record {
           count = omega (arith, length-append xs (replicate n 0 ++ ys), length-append (replicate n 0) ys, length-replicate {A = ℕ} n 0);
-          small = below-append 65536 xs (replicate n 0 ++ ys) g (below-append 65536 (replicate n 0) ys (zeros-below n) h);
+          small = below-append 65536 xs (replicate n 0 ++ ys) g (below-append 65536 (replicate n 0) ys (zeros-below 65536 n (lit< tt)) h);
         })
     go false l k = let z : _≡_ {A = ℕ} 0 1 = cc in absurd (omega arith)
 
@@ -117,10 +112,6 @@ eight-groups t gs e = go (ltb (gapOf t) (length t)) e
 
 -- ---- addresses
 
--- n digits write less than the base to the power n
-number-below : (base n : ℕ) (ds : List ℕ) → length ds ≡ n → AllBelow base ds → numberOf base ds < base ^ n
-number-below base n ds l h = subst (λ (k : ℕ). numberOf base ds < base ^ k) l (number-lt base ds h)
-
 groups-address : (gs : List ℕ) → Eight gs → IsAddress (groupsAddress gs)
 unfolding groupsAddress
 groups-address gs e = (
@@ -128,21 +119,8 @@ groups-address gs e = (
   number-below 65536 4 (drop 4 gs) (omega (arith, e .count, length-drop 4 gs)) (below-drop 65536 4 gs (e .small)),
 )
 
-parts-below : {ps : List (List ℕ)} {xs : List ℕ} → Reads (partOf 255) ps xs → AllBelow 256 xs
-parts-below done = tt
-parts-below (more {p} {x} e r) = (omega (arith, part-most 255 p x e), parts-below r)
-
 dotted-address : (t : List ℕ) (v : ℕ) → dottedOf t ≡ some v → v < 2 ^ 32
-unfolding dottedOf
-dotted-address t v e = go (eqb (length (splitOn 46 t)) 4) (every (partOf 255) (splitOn 46 t)) refl refl e
-  where
-    go : (b : Bool) (o : Option (List ℕ)) → eqb (length (splitOn 46 t)) 4 ≡ b → every (partOf 255) (splitOn 46 t) ≡ o → cond b (Option·map (numberOf 256) o) none ≡ some v → v < 2 ^ 32
-    go true (some xs) l q k =
-        let r = every-reads (partOf 255) (splitOn 46 t) xs q in
-        let is : numberOf 256 xs ≡ v = cc in
-        subst (λ (n : ℕ). n < 2 ^ 32) is (number-below 256 4 xs (omega (arith, reads-length r, eqb-true (length (splitOn 46 t)) 4 l)) (parts-below r))
-    go true none l q k = let z : _≡_ {A = ℕ} 0 1 = cc in absurd (omega arith)
-    go false o l q k = let z : _≡_ {A = ℕ} 0 1 = cc in absurd (omega arith)
+dotted-address t v e = let o = dotted-octets t v e in subst (λ (n : ℕ). n < 2 ^ 32) (o .3) (number-below 256 4 (o .0) (o .2) (o .1 .small))
 
 pub strict-address : (f : ℕ) (t : List ℕ) (a : Address) → strictOf f t ≡ some a → IsAddress a
 unfolding strictOf
