@@ -1,0 +1,47 @@
+-- What is claimed of the network form: text that was written, and read again (01, "Network form"). Assumes nothing.
+use mathlib.Core.Path.{_≡_, refl}
+use mathlib.Core.List.{List, [], _∷_, _++_}
+use mathlib.Core.Option.{some}
+use Prim.Native.Nat.{ℕ, _-_, _/_, _%_, _^_, _≤_, _<_, max}
+use native.Mathlib.Nat.{mul-div-cancel, mul-mod-left}
+use native.Mathlib.Omega.{arith}
+use lib.ListN.{length, take, drop}
+use lib.Pow.{pow-pos}
+use Rattle.address.specs.Answers.{gives}
+use Rattle.octets.specs.BigEndian.{digitsOf}
+use Rattle.digits.specs.Numerals.{numeral}
+use Rattle.network.specs.Network.{Network, sizeBytes, zeroFilled, networkOf, networkAnswer, networkLeaves, cleared, networkText}
+use Rattle.network.proofs.TextLaws.{cleared-high, text-most}
+use Rattle.network.proofs.ReadBackLaws.{written, written-read, written-filled, written-answer}
+
+-- ---- what is written
+
+-- "bits beyond the size cleared": these bits are zero, and those before them stay.
+module _ (W size v : ℕ) where
+  pub cleared-bits : cleared W size v % 2 ^ (W - size) ≡ 0
+  cleared-bits = rw (cleared-high W size v) (mul-mod-left (v / 2 ^ (W - size)) (2 ^ (W - size)))
+
+  pub kept-bits : cleared W size v / 2 ^ (W - size) ≡ v / 2 ^ (W - size)
+  kept-bits = rw (cleared-high W size v) (mul-div-cancel (v / 2 ^ (W - size)) (pow-pos (W - size)))
+
+-- "Size 0 writes `0/0`."
+pub size-zero : (v : ℕ) → v < 2 ^ 32 → networkText v 0 ≡ 48 ∷ 47 ∷ 48 ∷ []
+unfolding networkText numeral
+size-zero v h = let none : cleared 32 0 v ≡ 0 = omega arith in rw none
+
+-- The text has at most four octets, a slash and two digits.
+pub at-most-18 : (v size : ℕ) → size ≤ 32 → length (networkText v size) ≤ 18
+at-most-18 = text-most
+
+-- ---- reading what was written
+
+-- "Reading this gives the same size, and bytes which, filled with zeros to four, are the cleared address."
+pub read-back : (v size : ℕ) → size ≤ 32
+    → (n : Network) × (networkOf (networkText v size) ≡ some n) × (n .size ≡ size) × (zeroFilled 4 (n .bytes) ≡ digitsOf 256 4 (cleared 32 size v))
+read-back v size h = (written v size, written-read v size h, refl, written-filled v size h)
+
+-- "The answer is the size and the number of bytes written": as many as the text has octets, and what stood behind them stays.
+pub read-back-answer : (v size : ℕ) (old : List ℕ) → size ≤ 32 → max 1 (sizeBytes size) ≤ length old
+    → (networkAnswer (networkText v size) old ≡ gives (size, max 1 (sizeBytes size)))
+    × (networkLeaves (networkText v size) old ≡ take (max 1 (sizeBytes size)) (digitsOf 256 4 (cleared 32 size v)) ++ drop (max 1 (sizeBytes size)) old)
+read-back-answer = written-answer

@@ -1,0 +1,123 @@
+-- The network form (01, "Network form"; document 000). A text is the list of its bytes. Assumes nothing.
+use mathlib.Core.Bool.{Bool, cond, _&&_}
+use mathlib.Core.List.{List, [], _∷_, _++_, map}
+use mathlib.Core.Option.{Option, some, none, Option·map, Option·getD}
+use Prim.Native.Nat.{ℕ, zero, suc, _+_, _-_, _*_, _/_, _%_, _^_, max}
+use lib.Dec.{leb, ltb, eqb}
+use lib.ListN.{length, take, drop, getD, replicate}
+use Rattle.address.specs.declared.Address.{Address}
+use Rattle.address.specs.Addresses.{family, number}
+use Rattle.address.specs.Answers.{Answer, answer, gives, refuses, missing, refusal, writeRefusal, writeLeaves}
+use Rattle.octets.specs.BigEndian.{digitsOf}
+use Rattle.digits.specs.Numerals.{within, digitOf, allDigits, hexMarked, partOf, decimal}
+use Rattle.digits.specs.Pieces.{contains, indexOf, separated}
+use Rattle.dotted.specs.Dotted.{partsOf}
+use Rattle.network.specs.declared.NetworkReading.{NetworkReading}
+use Rattle.network.specs.declared.NetworkReading.the-variants.{Read, Refused}
+
+-- ---- the bytes given
+
+-- "Hex digits fill half bytes from the left. An odd last digit fills the upper half of its byte, the lower half is zero"
+unfoldable pub halfBytes : List ℕ → List ℕ
+halfBytes [] = []
+halfBytes (d ∷ []) = (d * 16) ∷ []
+halfBytes (d ∷ e ∷ ds) = (d * 16 + e) ∷ halfBytes ds
+
+-- "one to eight hex digits"
+unfoldable pub hexBytes : List ℕ → Option (List ℕ)
+unfolding halfBytes allDigits digitOf
+hexBytes t = cond (within 1 8 (length t) && allDigits 16 t) (some (halfBytes (map digitOf t))) none
+
+-- "Either `0x`/`0X` and one to eight hex digits, or one to four strict decimal parts"
+unfoldable pub givenOf : List ℕ → Option (List ℕ)
+unfolding hexBytes hexMarked partsOf
+givenOf t = cond (hexMarked t) (hexBytes (drop 2 t)) (partsOf t)
+
+-- ---- the size
+
+-- "it comes from the first byte: 240 and up 32; 224 and up 4; 192 and up 24; 128 and up 16; else 8"
+unfoldable pub classSize : ℕ → ℕ
+classSize b = cond (leb 240 b) 32 (cond (leb 224 b) 4 (cond (leb 192 b) 24 (cond (leb 128 b) 16 8)))
+
+-- "If that inferred size is 8 or more and less than 8 times the bytes given, it becomes 8 times the bytes given."
+unfoldable pub widened : ℕ → ℕ → ℕ
+widened count size = cond (leb 8 size && ltb size (8 * count)) (8 * count) size
+
+unfoldable pub inferredSize : List ℕ → ℕ
+unfolding classSize widened
+inferredSize given = widened (length given) (classSize (getD given 0 0))
+
+-- "the size divided by eight, rounded up"
+abbrev pub sizeBytes : ℕ → ℕ
+sizeBytes size = (size + 7) / 8
+
+-- ---- a network
+
+-- what a text means: a size, and the bytes
+pub record Network : Type 0 where
+  pub size : ℕ
+  pub bytes : List ℕ
+
+-- bytes with zeros behind them, n in all
+unfoldable pub zeroFilled : ℕ → List ℕ → List ℕ
+zeroFilled n bs = bs ++ replicate (n - length bs) 0
+
+-- "The bytes written are the larger of the bytes given and the size divided by eight, rounded up. Missing ones are zero."
+unfoldable pub network : ℕ → List ℕ → Network
+unfolding zeroFilled
+network size given = record { size = size; bytes = zeroFilled (max (length given) (sizeBytes size)) given }
+
+abbrev pub sized : Option ℕ → Option (List ℕ) → Option Network
+sized none given = none
+sized (some size) none = none
+sized (some size) (some given) = some (network size given)
+
+-- "then, if wished, a slash and a size. The text after the slash is read as a part of its own: one to three digits, no leading zero except
+-- `0`." A size above 32 is of the form.
+unfoldable pub networkOf : List ℕ → Option Network
+unfolding givenOf inferredSize network contains indexOf partOf
+networkOf t =
+    cond (contains 47 t)
+    (sized (partOf 999 (drop (suc (indexOf 47 t)) t)) (givenOf (take (indexOf 47 t) t)))
+    (sized (Option·map inferredSize (givenOf t)) (givenOf t))
+
+-- ---- reading
+
+abbrev pub noNetwork : Network
+noNetwork = record { size = 0; bytes = [] }
+
+-- "the text is longer than 64 bytes", "not of the form asked for", "Above 32 is refusal 4"
+abbrev pub readReasons : List ℕ → Option Network → List (ℕ × Bool)
+readReasons t o = (1, ltb 64 (length t)) ∷ (2, missing o) ∷ (4, ltb 32 (Option·getD o noNetwork .size)) ∷ []
+
+-- "The answer is the size and the number of bytes written."
+unfoldable pub networkAnswer : List ℕ → List ℕ → Answer (ℕ × ℕ)
+unfolding refusal networkOf
+networkAnswer t old =
+    let n = Option·getD (networkOf t) noNetwork in
+    answer (0, 0) (writeRefusal (readReasons t (networkOf t)) (n .bytes) old) (n .size, length (n .bytes))
+
+-- and what the call leaves in the buffer
+unfoldable pub networkLeaves : List ℕ → List ℕ → List ℕ
+unfolding writeLeaves networkOf
+networkLeaves t old = writeLeaves (readReasons t (networkOf t)) (Option·getD (networkOf t) noNetwork .bytes) old
+
+-- the code's answer in the paper's terms
+abbrev pub networkReadingAnswer : NetworkReading → Answer (ℕ × ℕ)
+networkReadingAnswer (Read size count) = gives (size, count)
+networkReadingAnswer (Refused e) = refuses (0, 0) e
+
+-- ---- writing
+
+-- a number of W bits, "bits beyond the size cleared"
+unfoldable pub cleared : ℕ → ℕ → ℕ → ℕ
+cleared W size v = v - v % 2 ^ (W - size)
+
+-- "the first (size/8, rounded up) bytes in decimal with dots, bits beyond the size cleared, a slash and the size. Size 0 writes `0/0`."
+unfoldable pub networkText : ℕ → ℕ → List ℕ
+unfolding cleared digitsOf separated
+networkText v size = separated 46 (map decimal (take (max 1 (sizeBytes size)) (digitsOf 256 4 (cleared 32 size v)))) ++ 47 ∷ decimal size
+
+-- "an IPv6 address is handed to [...] the network writer", "a length or bit count is above 32"
+abbrev pub writeReasons : Address → ℕ → List (ℕ × Bool)
+writeReasons a size = (9, eqb (family a) 6) ∷ (4, ltb 32 size) ∷ []
