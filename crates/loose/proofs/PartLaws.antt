@@ -3,13 +3,13 @@ use mathlib.Core.Path.{_≡_, refl, sym, ap, ap₂, _∙_}
 use mathlib.Core.Bool.{Bool, true, false, cond, _&&_, _||_, and-eq-true-iff, false≢true}
 use mathlib.Core.List.{List, [], _∷_}
 use mathlib.Core.Option.{Option, some, none}
-use Prim.Native.Nat.{ℕ, zero, suc, _+_, _-_, _≤_, _<_}
-use native.Mathlib.Nat.{zero-add, suc-add}
+use Prim.Native.Nat.{ℕ, suc, _+_, _-_, _≤_, _<_}
+use native.Mathlib.Nat.{zero-add}
 use native.Mathlib.Omega.{arith}
 use borrow.Author.Tests.{eq-eqb, ne-eqb, eqb-true}
 use lib.Dec.{eqb, lit≤}
 use lib.ListN.{length, take, drop, getD, length-drop}
-use lib.Seq.{take-nil, getD-drop}
+use lib.Seq.{length-take-le, take-add, drop-at, getD-drop}
 use Rattle.digits.specs.declared.read.Leading.{Leading}
 use Rattle.digits.specs.declared.read.Leading.the-variants.{Number, Nothing}
 use Rattle.digits.specs.Numerals.{digitOf, textNumber, atMost, boundedNumber, hexMarked, leading}
@@ -123,19 +123,16 @@ mark-index t = go (hexMarked t) refl
     go true e = marked-index t e
     go false e = sym (zero-add (indexOf 46 t))
 
--- a part of a text, without the bytes before it
-drop-front : (k n : ℕ) (t : List ℕ) → drop k (take (k + n) t) ≡ take n (drop k t)
-drop-front zero n t = ap (λ (m : ℕ). take m t) (zero-add n)
-drop-front (suc k) n [] = ap (drop (suc k)) (take-nil (suc k + n)) ∙ sym (take-nil n)
-drop-front (suc k) n (c ∷ t) = ap (λ (m : ℕ). drop (suc k) (take m (c ∷ t))) (suc-add k n) ∙ drop-front k n t
-
 -- the digits that the first part has, behind its mark
 first-part : (t : List ℕ) → loosePart (first t) ≡ textNumber (baseOf t) (first (drop (markOf t) t))
 unfolding loosePart
 first-part t =
     let b : baseOf (first t) ≡ baseOf t = ap₂ (λ (m z : Bool). cond m 16 (cond z 8 10)) (first-marked t) (first-zero t) in
     let k : markOf (first t) ≡ markOf t = ap (λ (m : Bool). cond m 2 0) (first-marked t) in
-    rw (b, k, mark-index t, drop-front (markOf t) (indexOf 46 (drop (markOf t) t)) t)
+    let n = indexOf 46 (drop (markOf t) t) in
+    let behind : drop (markOf t) (take (markOf t + n) t) ≡ take n (drop (markOf t) t) =
+    ap (drop (markOf t)) (take-add (markOf t) n t) ∙ drop-at (take (markOf t) t) (take n (drop (markOf t) t)) (markOf t) (length-take-le (markOf t) t (mark-le t)) in
+    rw (b, k, mark-index t, behind)
 
 -- ---- what is found at the start of a text
 
