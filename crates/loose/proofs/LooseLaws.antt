@@ -32,7 +32,7 @@ use Rattle.loose.proofs.PartLaws.{first, firstPart, found-nothing, foun
 -- ---- the last part
 
 -- the address of octets that write v and a last part x, which fills the octets that are left
-abbrev lastPart : ℕ → ℕ → ℕ → Option Address
+abbrev pub lastPart : ℕ → ℕ → ℕ → Option Address
 lastPart v x left = cond (ltb x (256 ^ left)) (some (V4 (v * 256 ^ left + x))) none
 
 -- the room that the code computes
@@ -62,7 +62,7 @@ filled k none = none
 filled k (some xs) = octetsFrom k xs
 
 -- the address of octets that write v and more octets
-abbrev after : ℕ → Option (List ℕ) → Option Address
+abbrev pub after : ℕ → Option (List ℕ) → Option Address
 after v o = Option·map (λ bs. V4 (numberFrom 256 v bs)) o
 
 -- what is left to read: octets that write v, and parts that fill the octets that are left
@@ -96,7 +96,7 @@ octets-large (suc k) x [] h l = let most : 256 ^ suc k ≤ 256 ^ 4 = pow-le-pow-
 octets-large (suc k) x (y ∷ ys) h l = rw (le-ltb x 256 (omega arith))
 
 -- the last number
-octets-last : (k v x : ℕ) → after v (octetsFrom (suc k) (x ∷ [])) ≡ lastPart v x (suc k)
+pub octets-last : (k v x : ℕ) → after v (octetsFrom (suc k) (x ∷ [])) ≡ lastPart v x (suc k)
 unfolding octetsFrom
 octets-last k v x = go (ltb x (256 ^ suc k)) refl
   where
@@ -108,7 +108,7 @@ octets-last k v x = go (ltb x (256 ^ suc k)) refl
     go false e = refl
 
 -- a number that is not the last
-octets-more : (k v x y : ℕ) (ys : List ℕ) → after v (octetsFrom (suc k) (x ∷ y ∷ ys)) ≡ cond (ltb x 256) (after (v * 256 + x) (octetsFrom k (y ∷ ys))) none
+pub octets-more : (k v x y : ℕ) (ys : List ℕ) → after v (octetsFrom (suc k) (x ∷ y ∷ ys)) ≡ cond (ltb x 256) (after (v * 256 + x) (octetsFrom k (y ∷ ys))) none
 unfolding octetsFrom numberFrom
 octets-more k v x y ys = go (ltb x 256) (octetsFrom k (y ∷ ys))
   where
