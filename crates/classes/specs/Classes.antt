@@ -9,7 +9,7 @@ use Rattle.address.specs.declared.Address.the-variants.{V4}
 use Rattle.address.specs.Addresses.{family, number}
 use Rattle.address.specs.Answers.{Answer, answer, gives, refuses, missing, refusal, noAddress}
 use Rattle.classes.specs.declared.Splitting.{Splitting}
-use Rattle.classes.specs.declared.Splitting.the-variants.{Parts, Refused}
+use Rattle.classes.specs.declared.Splitting.the-variants.{NetworkHost, Refused}
 
 -- a row of the table
 pub record Class : Type 0 where
@@ -63,9 +63,9 @@ abbrev pub hosts : Class → ℕ
 hosts c = c .hostMost + 1
 
 -- "top byte", "top two bytes", "top three bytes" as the network number, and what is below them as the host number
-abbrev pub parts : Option Class → ℕ → ℕ × ℕ
-parts none v = (0, 0)
-parts (some c) v = (v / hosts c, v % hosts c)
+abbrev pub networkHost : Option Class → ℕ → ℕ × ℕ
+networkHost none v = (0, 0)
+networkHost (some c) v = (v / hosts c, v % hosts c)
 
 -- "an IPv6 address is handed to the class split", "an address beginning with bits 111 is to be split"
 unfoldable pub splitAnswer : Address → Answer (ℕ × ℕ)
@@ -73,11 +73,11 @@ unfolding refusal classOf
 splitAnswer a =
     answer (0, 0)
     (refusal ((9, eqb (family a) 6) ∷ (6, missing (classOf (number a))) ∷ []))
-    (parts (classOf (number a)) (number a))
+    (networkHost (classOf (number a)) (number a))
 
 -- the code's answer in the paper's terms: the network number and the host number
 abbrev pub splittingAnswer : Splitting → Answer (ℕ × ℕ)
-splittingAnswer (Parts network host) = gives (network, host)
+splittingAnswer (NetworkHost network host) = gives (network, host)
 splittingAnswer (Refused e) = refuses (0, 0) e
 
 -- ---- joining
@@ -87,13 +87,13 @@ abbrev pub hostTooLarge : Option Class → ℕ → Bool
 hostTooLarge none host = false
 hostTooLarge (some c) host = ltb (c .hostMost) host
 
-abbrev pub joined : Option Class → ℕ → ℕ → Address
-joined none network host = noAddress
-joined (some c) network host = V4 (network * hosts c + host)
+abbrev pub hostAddress : Option Class → ℕ → ℕ → Address
+hostAddress none network host = noAddress
+hostAddress (some c) network host = V4 (network * hosts c + host)
 
 -- "a network number lies in no class", then the host number, or the address
 unfoldable pub joinAnswer : ℕ → ℕ → Answer Address
 unfolding refusal networkClass
 joinAnswer network host =
     let c = networkClass network in
-    answer noAddress (refusal ((6, missing c) ∷ (7, hostTooLarge c host) ∷ [])) (joined c network host)
+    answer noAddress (refusal ((6, missing c) ∷ (7, hostTooLarge c host) ∷ [])) (hostAddress c network host)

@@ -12,7 +12,7 @@ use address::Refusal;
 
 // What splitting answers: the network number and the host number.
 pub enum Splitting {
-    Parts(u32, u32),
+    NetworkHost(u32, u32),
     Refused(Refusal),
 }
 
@@ -24,13 +24,13 @@ pub fn split(address: Address) -> Splitting
         return Splitting::Refused(Refusal::WrongFamily);
     };
     if v < 0x8000_0000 {
-        return Splitting::Parts(v / 16777216, v % 16777216);
+        return Splitting::NetworkHost(v / 16777216, v % 16777216);
     }
     if v < 0xc000_0000 {
-        return Splitting::Parts(v / 65536, v % 65536);
+        return Splitting::NetworkHost(v / 65536, v % 65536);
     }
     if v < 0xe000_0000 {
-        return Splitting::Parts(v / 256, v % 256);
+        return Splitting::NetworkHost(v / 256, v % 256);
     }
     Splitting::Refused(Refusal::NoClass)
 }

@@ -122,34 +122,41 @@ room n v h k =
 
 -- ---- what parts are
 
--- as many numbers as pieces, one to four, each an octet
-pub record Octets (t xs : List ℕ) : Type 0 where
-  pub each : every (partOf 255) (splitOn 46 t) ≡ some xs
-  pub pieces : length (splitOn 46 t) ≡ length xs
+-- one to four octets
+pub record Octets (xs : List ℕ) : Type 0 where
   pub any : 1 ≤ length xs
   pub most : length xs ≤ 4
   pub small : AllBelow 256 xs
 
-pub parts-octets : (t xs : List ℕ) → partsOf t ≡ some xs → Octets t xs
+-- each piece is read as an octet
+pub record PartsAre (t xs : List ℕ) : Type 0 where
+  pub each : every (partOf 255) (splitOn 46 t) ≡ some xs
+  pub pieces : length (splitOn 46 t) ≡ length xs
+  pub octets : Octets xs
+
+pub parts-are : (t xs : List ℕ) → partsOf t ≡ some xs → PartsAre t xs
 unfolding partsOf
-parts-octets t xs e = go (leb (length (splitOn 46 t)) 4) refl e
+parts-are t xs e = go (leb (length (splitOn 46 t)) 4) refl e
   where
-    go : (b : Bool) → leb (length (splitOn 46 t)) 4 ≡ b → cond b (every (partOf 255) (splitOn 46 t)) none ≡ some xs → Octets t xs
+    go : (b : Bool) → leb (length (splitOn 46 t)) 4 ≡ b → cond b (every (partOf 255) (splitOn 46 t)) none ≡ some xs → PartsAre t xs
     go true p q =
         let r = every-reads (partOf 255) (splitOn 46 t) xs q in
         record {
           each = q;
           pieces = reads-length r;
-          any = omega (arith, reads-length r, ap length (split-first 46 t .1));
-          most = omega (arith, reads-length r, leb-true (length (splitOn 46 t)) 4 p);
-          small = reads-below 256 part-octet r;
+          octets =
+              record {
+                any = omega (arith, reads-length r, ap length (split-first 46 t .1));
+                most = omega (arith, reads-length r, leb-true (length (splitOn 46 t)) 4 p);
+                small = reads-below 256 part-octet r;
+              };
         }
     go false p q = let z : _≡_ {A = ℕ} 0 1 = cc in absurd (omega arith)
 
 -- four parts are among one to four
 pub dotted-parts : (t xs : List ℕ) → partsOf t ≡ some xs → dottedOf t ≡ cond (eqb (length xs) 4) (some (numberOf 256 xs)) none
 unfolding dottedOf
-dotted-parts t xs e = let o = parts-octets t xs e in rw (o .pieces, o .each)
+dotted-parts t xs e = let o = parts-are t xs e in rw (o .pieces, o .each)
 
 pub dotted-none : (t : List ℕ) → partsOf t ≡ none → dottedOf t ≡ none
 unfolding dottedOf partsOf
@@ -163,20 +170,20 @@ dotted-none t e = go (eqb (length (splitOn 46 t)) 4) refl (every (partOf 255) (s
     go false q o k = refl
 
 -- what a text of four parts is read as
-pub dotted-octets : (t : List ℕ) (v : ℕ) → dottedOf t ≡ some v → (xs : List ℕ) × Octets t xs × (length xs ≡ 4) × (numberOf 256 xs ≡ v)
+pub dotted-octets : (t : List ℕ) (v : ℕ) → dottedOf t ≡ some v → (xs : List ℕ) × PartsAre t xs × (length xs ≡ 4) × (numberOf 256 xs ≡ v)
 dotted-octets t v e = go (partsOf t) refl
   where
     none-some : _≡_ {A = Option ℕ} none (some v) → ⊥
     none-some k = let z : _≡_ {A = ℕ} 0 1 = cc in omega arith
 
-    four : (xs : List ℕ) → Octets t xs → (b : Bool) → eqb (length xs) 4 ≡ b → cond b (some (numberOf 256 xs)) none ≡ some v
-        → (ys : List ℕ) × Octets t ys × (length ys ≡ 4) × (numberOf 256 ys ≡ v)
+    four : (xs : List ℕ) → PartsAre t xs → (b : Bool) → eqb (length xs) 4 ≡ b → cond b (some (numberOf 256 xs)) none ≡ some v
+        → (ys : List ℕ) × PartsAre t ys × (length ys ≡ 4) × (numberOf 256 ys ≡ v)
     four xs o true q k = (xs, o, eqb-true (length xs) 4 q, cc)
     four xs o false q k = absurd (none-some k)
 
-    go : (o : Option (List ℕ)) → partsOf t ≡ o → (xs : List ℕ) × Octets t xs × (length xs ≡ 4) × (numberOf 256 xs ≡ v)
+    go : (o : Option (List ℕ)) → partsOf t ≡ o → (xs : List ℕ) × PartsAre t xs × (length xs ≡ 4) × (numberOf 256 xs ≡ v)
     go none q = absurd (none-some (sym (dotted-none t q) ∙ e))
-    go (some xs) q = four xs (parts-octets t xs q) (eqb (length xs) 4) refl (sym (dotted-parts t xs q) ∙ e)
+    go (some xs) q = four xs (parts-are t xs q) (eqb (length xs) 4) refl (sym (dotted-parts t xs q) ∙ e)
 
 -- what an answer says of the definition
 pub numbers-says : (o : Option (List ℕ)) (v n : ℕ) → Numbers v n ≡ asParts o → (xs : List ℕ) × (o ≡ some xs) × (v ≡ numberOf 256 xs) × (n ≡ length xs)

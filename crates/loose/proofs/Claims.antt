@@ -11,7 +11,7 @@ use Rattle.address.specs.declared.Address.the-variants.{V4}
 use Rattle.address.specs.Addresses.{IsAddress}
 use Rattle.dotted.specs.Dotted.{dottedOf}
 use Rattle.loose.specs.Loose.{octetsFrom, looseOf}
-use Rattle.loose.proofs.LooseLaws.{after, octets-last, octets-more}
+use Rattle.loose.proofs.LooseLaws.{addressAfter, octets-last, octets-more}
 use Rattle.loose.proofs.MeaningLaws.{loose-address, strict-loose}
 
 -- What a loose text means is an address: the last part "fills the remaining bytes", so that all parts fill 32 bits.
@@ -26,7 +26,7 @@ strict-is-loose = strict-loose
 
 -- the address of parts that have these numbers
 abbrev addressOf : List ℕ → Option Address
-addressOf xs = after 0 (octetsFrom 4 xs)
+addressOf xs = addressAfter 0 (octetsFrom 4 xs)
 
 module _ (a : ℕ) where
   -- "a": "a 32-bit value", at most 4,294,967,295
@@ -34,8 +34,8 @@ module _ (a : ℕ) where
   one-part = octets-last 3 0 a ∙ ap (λ (n : ℕ). cond (ltb a (2 ^ 32)) (some (V4 n)) none) (omega arith)
 
   -- the first of two or more
-  first : (b : ℕ) (xs : List ℕ) → addressOf (a ∷ b ∷ xs) ≡ cond (ltb a 256) (after a (octetsFrom 3 (b ∷ xs))) none
-  first b xs = octets-more 3 0 a b xs ∙ ap (λ (v : ℕ). cond (ltb a 256) (after v (octetsFrom 3 (b ∷ xs))) none) (omega arith)
+  first : (b : ℕ) (xs : List ℕ) → addressOf (a ∷ b ∷ xs) ≡ cond (ltb a 256) (addressAfter a (octetsFrom 3 (b ∷ xs))) none
+  first b xs = octets-more 3 0 a b xs ∙ ap (λ (v : ℕ). cond (ltb a 256) (addressAfter v (octetsFrom 3 (b ∷ xs))) none) (omega arith)
 
   module _ (b : ℕ) where
     -- "a.b": "Part b is interpreted as a 24-bit value that defines the rightmost three bytes", at most 16,777,215
@@ -65,7 +65,7 @@ module _ (a : ℕ) where
             with : ℕ → Bool → Option (List ℕ) → Option (List ℕ)
             with x p o = cond p (Option·map (λ bs. x ∷ bs) o) none
 
-            go : (p q r s : Bool) → after 0 (with a p (with b q (with c r (with d s none)))) ≡ none
+            go : (p q r s : Bool) → addressAfter 0 (with a p (with b q (with c r (with d s none)))) ≡ none
             go true true true true = refl
             go true true true false = refl
             go true true false s = refl

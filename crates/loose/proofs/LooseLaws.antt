@@ -57,23 +57,23 @@ module _ (v x left : ℕ) where
 -- ---- parts as octets
 
 -- the octets of numbers that fill k of them
-abbrev filled : ℕ → Option (List ℕ) → Option (List ℕ)
-filled k none = none
-filled k (some xs) = octetsFrom k xs
+abbrev filling : ℕ → Option (List ℕ) → Option (List ℕ)
+filling k none = none
+filling k (some xs) = octetsFrom k xs
 
 -- the address of octets that write v and more octets
-abbrev pub after : ℕ → Option (List ℕ) → Option Address
-after v o = Option·map (λ bs. V4 (numberFrom 256 v bs)) o
+abbrev pub addressAfter : ℕ → Option (List ℕ) → Option Address
+addressAfter v o = Option·map (λ bs. V4 (numberFrom 256 v bs)) o
 
 -- what is left to read: octets that write v, and parts that fill the octets that are left
 pub looseFrom : ℕ → ℕ → List (List ℕ) → Option Address
-looseFrom left v ps = after v (filled left (every loosePart ps))
+looseFrom left v ps = addressAfter v (filling left (every loosePart ps))
 
 pub loose-start : (t : List ℕ) → looseOf t ≡ looseFrom 4 0 (splitOn 46 t)
 unfolding looseOf looseFrom
 loose-start t = go (every loosePart (splitOn 46 t))
   where
-    go : (o : Option (List ℕ)) → Option·map (λ bs. V4 (numberOf 256 bs)) (combined o) ≡ after 0 (filled 4 o)
+    go : (o : Option (List ℕ)) → Option·map (λ bs. V4 (numberOf 256 bs)) (combined o) ≡ addressAfter 0 (filling 4 o)
     go none = refl
     go (some xs) = refl
 
@@ -82,7 +82,7 @@ pub loose-over : (v : ℕ) (ps : List (List ℕ)) → looseFrom 0 v ps ≡ none
 unfolding looseFrom octetsFrom
 loose-over v ps = go (every loosePart ps)
   where
-    go : (o : Option (List ℕ)) → after v (filled 0 o) ≡ none
+    go : (o : Option (List ℕ)) → addressAfter v (filling 0 o) ≡ none
     go none = refl
     go (some xs) = refl
 
@@ -96,11 +96,11 @@ octets-large (suc k) x [] h l = let most : 256 ^ suc k ≤ 256 ^ 4 = pow-le-pow-
 octets-large (suc k) x (y ∷ ys) h l = rw (le-ltb x 256 (omega arith))
 
 -- the last number
-pub octets-last : (k v x : ℕ) → after v (octetsFrom (suc k) (x ∷ [])) ≡ lastPart v x (suc k)
+pub octets-last : (k v x : ℕ) → addressAfter v (octetsFrom (suc k) (x ∷ [])) ≡ lastPart v x (suc k)
 unfolding octetsFrom
 octets-last k v x = go (ltb x (256 ^ suc k)) refl
   where
-    go : (b : Bool) → ltb x (256 ^ suc k) ≡ b → after v (cond b (some (digitsOf 256 (suc k) x)) none) ≡ cond b (some (V4 (v * 256 ^ suc k + x))) none
+    go : (b : Bool) → ltb x (256 ^ suc k) ≡ b → addressAfter v (cond b (some (digitsOf 256 (suc k) x)) none) ≡ cond b (some (V4 (v * 256 ^ suc k + x))) none
     go true e =
         let ds = digitsOf 256 (suc k) x in
         let same = digits-number 256 (lit< tt) (suc k) x (ltb-true x (256 ^ suc k) e) in
@@ -108,11 +108,11 @@ octets-last k v x = go (ltb x (256 ^ suc k)) refl
     go false e = refl
 
 -- a number that is not the last
-pub octets-more : (k v x y : ℕ) (ys : List ℕ) → after v (octetsFrom (suc k) (x ∷ y ∷ ys)) ≡ cond (ltb x 256) (after (v * 256 + x) (octetsFrom k (y ∷ ys))) none
+pub octets-more : (k v x y : ℕ) (ys : List ℕ) → addressAfter v (octetsFrom (suc k) (x ∷ y ∷ ys)) ≡ cond (ltb x 256) (addressAfter (v * 256 + x) (octetsFrom k (y ∷ ys))) none
 unfolding octetsFrom numberFrom
 octets-more k v x y ys = go (ltb x 256) (octetsFrom k (y ∷ ys))
   where
-    go : (b : Bool) (o : Option (List ℕ)) → after v (cond b (Option·map (λ bs. x ∷ bs) o) none) ≡ cond b (after (v * 256 + x) o) none
+    go : (b : Bool) (o : Option (List ℕ)) → addressAfter v (cond b (Option·map (λ bs. x ∷ bs) o) none) ≡ cond b (addressAfter (v * 256 + x) o) none
     go true none = refl
     go true (some bs) = refl
     go false o = refl
@@ -129,9 +129,9 @@ module _ (left v : ℕ) (p : List ℕ) (ps : List (List ℕ)) where
   unfolding looseFrom every
   part-large x h k l = rw h (go (every loosePart ps))
     where
-      go : (o : Option (List ℕ)) → after v (filled left (joined (some (x ∷ [])) o)) ≡ none
+      go : (o : Option (List ℕ)) → addressAfter v (filling left (joined (some (x ∷ [])) o)) ≡ none
       go none = refl
-      go (some ys) = ap (after v) (octets-large left x ys k l)
+      go (some ys) = ap (addressAfter v) (octets-large left x ys k l)
 
   part-bad : left ≤ 4 → atMost 4294967295 (loosePart p) ≡ none → looseFrom left v (p ∷ ps) ≡ none
   part-bad k h = go (loosePart p) refl h
@@ -158,7 +158,7 @@ unfolding looseFrom every
 part-more k v p q qs x h = rw h (go (loosePart q) (every loosePart qs))
   where
     go : (o : Option ℕ) (os : Option (List ℕ))
-        → after v (filled (suc k) (joined (some (x ∷ [])) (joined (single o) os))) ≡ cond (ltb x 256) (after (v * 256 + x) (filled k (joined (single o) os))) none
+        → addressAfter v (filling (suc k) (joined (some (x ∷ [])) (joined (single o) os))) ≡ cond (ltb x 256) (addressAfter (v * 256 + x) (filling k (joined (single o) os))) none
     go none os = sym (cond-none (ltb x 256))
     go (some y) none = sym (cond-none (ltb x 256))
     go (some y) (some ys) = octets-more k v x y ys

@@ -103,5 +103,5 @@ strict-loose t v e =
     let xs = o .0 in
     let four = o .2 in
     let read : every loosePart (splitOn 46 t) ≡ some xs = reads-so strict-part (every-reads (partOf 255) (splitOn 46 t) xs (o .1 .each)) in
-    let whole : octetsFrom 4 xs ≡ some xs = subst (λ (n : ℕ). octetsFrom n xs ≡ some xs) four (octets-each xs (omega arith) (o .1 .small)) in
+    let whole : octetsFrom 4 xs ≡ some xs = subst (λ (n : ℕ). octetsFrom n xs ≡ some xs) four (octets-each xs (omega arith) (o .1 .octets .small)) in
     rw (read, whole, o .3)

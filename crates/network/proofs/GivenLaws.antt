@@ -18,15 +18,15 @@ use Rattle.digits.proofs.NumeralLaws.{Digits, read-number, read-digits, number-
 use Rattle.digits.proofs.PieceLaws.{at-most-says, bounded-reads, whole-nothing, whole-short, whole-number}
 use Rattle.dotted.specs.declared.Parts.the-variants.{Numbers, NotParts}
 use Rattle.dotted.specs.Dotted.{partsOf, asParts}
-use Rattle.dotted.proofs.DottedLaws.{numbers-says, not-parts-says, parts-octets}
-use Rattle.network.specs.declared.given.Given.the-variants.{Octets, NotGiven}
+use Rattle.dotted.proofs.DottedLaws.{Octets, numbers-says, not-parts-says, parts-are}
+use Rattle.network.specs.declared.given.Given.the-variants.{Bytes, NotGiven}
 use Rattle.network.specs.Inner.{asGiven}
 use Rattle.network.specs.Network.{halfBytes, hexBytes, givenOf, zeroFilled}
 
 -- what an answer says of the definition
-pub octets-says : (o : Option (List ℕ)) (v n : ℕ) → Octets v n ≡ asGiven o → (bs : List ℕ) × (o ≡ some bs) × (v ≡ numberOf 256 (zeroFilled 4 bs)) × (n ≡ length bs)
-octets-says none v n e = let z : _≡_ {A = ℕ} 0 1 = cc in absurd (omega arith)
-octets-says (some bs) v n e = (bs, refl, cc, cc)
+pub bytes-says : (o : Option (List ℕ)) (v n : ℕ) → Bytes v n ≡ asGiven o → (bs : List ℕ) × (o ≡ some bs) × (v ≡ numberOf 256 (zeroFilled 4 bs)) × (n ≡ length bs)
+bytes-says none v n e = let z : _≡_ {A = ℕ} 0 1 = cc in absurd (omega arith)
+bytes-says (some bs) v n e = (bs, refl, cc, cc)
 
 pub not-given-says : (o : Option (List ℕ)) → NotGiven ≡ asGiven o → o ≡ none
 not-given-says none e = refl
@@ -95,12 +95,6 @@ halves-shifted ds small h =
 
 -- ---- hex digits
 
--- one to four octets
-pub record Bytes (bs : List ℕ) : Type 0 where
-  pub any : 1 ≤ length bs
-  pub most : length bs ≤ 4
-  pub small : AllBelow 256 bs
-
 module _ (t : List ℕ) where
   abbrev hexTest : Bool
   hexTest = within 1 8 (length t) && allDigits 16 t
@@ -119,16 +113,16 @@ module _ (t : List ℕ) where
       go true e = let d = hex-tested e in absurd (n (d .0) (d .1))
       go false e = refl
 
-  hex-given : (bs : List ℕ) → hexBytes t ≡ some bs → Bytes bs
+  hex-given : (bs : List ℕ) → hexBytes t ≡ some bs → Octets bs
   unfolding hexBytes
   hex-given bs = go hexTest refl
     where
-      go : (b : Bool) → hexTest ≡ b → cond b (some (halfBytes (map digitOf t))) none ≡ some bs → Bytes bs
+      go : (b : Bool) → hexTest ≡ b → cond b (some (halfBytes (map digitOf t))) none ≡ some bs → Octets bs
       go true e k =
           let d = hex-tested e in
           let long = halves-length (map digitOf t) in
           let same : halfBytes (map digitOf t) ≡ bs = cc in
-          subst Bytes same
+          subst Octets same
           (record {
             any = omega (arith, length-map t digitOf, d .0 .any);
             most = omega (arith, length-map t digitOf, d .1);
@@ -149,7 +143,7 @@ module _ (t : List ℕ) where
           let z : _≡_ {A = ℕ} 0 1 = cc in
           omega arith
 
-  hex-some : (v : ℕ) → textNumber 16 t ≡ some v → length t ≤ 8 → Octets (v * 2 ^ (32 - 4 * length t) % 2 ^ 32) ((length t + 1) / 2) ≡ asGiven (hexBytes t)
+  hex-some : (v : ℕ) → textNumber 16 t ≡ some v → length t ≤ 8 → Bytes (v * 2 ^ (32 - 4 * length t) % 2 ^ 32) ((length t + 1) / 2) ≡ asGiven (hexBytes t)
   unfolding hexBytes
   hex-some v e h =
       let d = read-digits 16 t v e in
@@ -177,7 +171,7 @@ module _ (t : List ℕ) where
       pub hex-long : 8 < n → NotGiven ≡ asGiven (hexBytes t)
       hex-long k = sym (ap asGiven (hex-else (λ d m. omega (arith, whole .1))))
 
-      pub hex-number : n ≤ 8 → Octets (v * 2 ^ (32 - 4 * n) % 2 ^ 32) ((n + 1) / 2) ≡ asGiven (hexBytes t)
+      pub hex-number : n ≤ 8 → Bytes (v * 2 ^ (32 - 4 * n) % 2 ^ 32) ((n + 1) / 2) ≡ asGiven (hexBytes t)
       hex-number k = rw (whole .1) (hex-some v (whole .0) (omega (arith, whole .1)))
 
 -- ---- decimal parts
@@ -186,22 +180,22 @@ module _ (t : List ℕ) where
   pub parts-nothing : NotParts ≡ asParts (partsOf t) → NotGiven ≡ asGiven (partsOf t)
   parts-nothing h = sym (ap asGiven (not-parts-says (partsOf t) h))
 
-  parts-some : (xs : List ℕ) → partsOf t ≡ some xs → Octets (numberOf 256 xs * 2 ^ (32 - 8 * length xs) % 2 ^ 32) (length xs) ≡ asGiven (partsOf t)
+  parts-some : (xs : List ℕ) → partsOf t ≡ some xs → Bytes (numberOf 256 xs * 2 ^ (32 - 8 * length xs) % 2 ^ 32) (length xs) ≡ asGiven (partsOf t)
   unfolding zeroFilled
   parts-some xs e =
-      let o = parts-octets t xs e in
+      let o = parts-are t xs e .octets in
       let most = o .most in
-      rw e (ap (λ (v : ℕ). Octets v (length xs)) (shifted 8 32 (32 - 8 * length xs) (4 - length xs) xs (o .small) (omega arith) (omega arith)))
+      rw e (ap (λ (v : ℕ). Bytes v (length xs)) (shifted 8 32 (32 - 8 * length xs) (4 - length xs) xs (o .small) (omega arith) (omega arith)))
 
   module _ (v n : ℕ) (h : Numbers v n ≡ asParts (partsOf t)) where
     pub parts-count : (1 ≤ n) × (n ≤ 4)
     parts-count =
         let s = numbers-says (partsOf t) v n h in
-        let o = parts-octets t (s .0) (s .1) in
+        let o = parts-are t (s .0) (s .1) .octets in
         (omega (arith, s .3, o .any), omega (arith, s .3, o .most))
 
-    pub parts-number : Octets (v * 2 ^ (32 - 8 * n) % 2 ^ 32) n ≡ asGiven (partsOf t)
-    parts-number = let s = numbers-says (partsOf t) v n h in ap₂ (λ (x k : ℕ). Octets (x * 2 ^ (32 - 8 * k) % 2 ^ 32) k) (s .2) (s .3) ∙ parts-some (s .0) (s .1)
+    pub parts-number : Bytes (v * 2 ^ (32 - 8 * n) % 2 ^ 32) n ≡ asGiven (partsOf t)
+    parts-number = let s = numbers-says (partsOf t) v n h in ap₂ (λ (x k : ℕ). Bytes (x * 2 ^ (32 - 8 * k) % 2 ^ 32) k) (s .2) (s .3) ∙ parts-some (s .0) (s .1)
 
 -- ---- either of them
 
@@ -213,11 +207,9 @@ pub given-parts : (t : List ℕ) → hexMarked t ≡ false → givenOf t ≡ par
 unfolding givenOf
 given-parts t h = rw h
 
-pub given-bytes : (t bs : List ℕ) → givenOf t ≡ some bs → Bytes bs
-given-bytes t bs e = go (hexMarked t) refl
+pub given-octets : (t bs : List ℕ) → givenOf t ≡ some bs → Octets bs
+given-octets t bs e = go (hexMarked t) refl
   where
-    go : (b : Bool) → hexMarked t ≡ b → Bytes bs
+    go : (b : Bool) → hexMarked t ≡ b → Octets bs
     go true m = hex-given (drop 2 t) bs (sym (given-hex t m) ∙ e)
-    go false m =
-        let o = parts-octets t bs (sym (given-parts t m) ∙ e) in
-        record { any = o .any; most = o .most; small = o .small }
+    go false m = parts-are t bs (sym (given-parts t m) ∙ e) .octets

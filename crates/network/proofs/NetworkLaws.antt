@@ -26,10 +26,11 @@ use Rattle.digits.specs.Numerals.{partOf, asLeading}
 use Rattle.digits.specs.Pieces.{indexOf}
 use Rattle.digits.proofs.PieceLaws.{index-contains, index-lacks, as-number, as-nothing}
 use Rattle.digits.proofs.SliceLaws.{to-end}
-use Rattle.network.specs.declared.given.Given.the-variants.{Octets, NotGiven}
+use Rattle.dotted.proofs.DottedLaws.{Octets}
+use Rattle.network.specs.declared.given.Given.the-variants.{Bytes, NotGiven}
 use Rattle.network.specs.Inner.{asGiven}
-use Rattle.network.specs.Network.{Network, givenOf, classSize, widened, inferredSize, sizeBytes, zeroFilled, network, sized, networkOf, networkAnswer, networkLeaves}
-use Rattle.network.proofs.GivenLaws.{Bytes, given-bytes, octets-says, not-given-says}
+use Rattle.network.specs.Network.{Network, givenOf, classSize, widened, inferredSize, sizeBytes, zeroFilled, completed, sized, networkOf, networkAnswer, networkLeaves}
+use Rattle.network.proofs.GivenLaws.{given-octets, bytes-says, not-given-says}
 
 -- ---- zeros behind bytes
 
@@ -51,7 +52,7 @@ filled-take n m bs h k =
     ∙ take-append-add bs (replicate (m - l) 0) (n - l)
     ∙ ap (λ zs. bs ++ zs) (take-zeros (n - l) (m - l) (omega arith))
 
-module _ (bs : List ℕ) (b : Bytes bs) where
+module _ (bs : List ℕ) (b : Octets bs) where
   filled-below : AllBelow 256 (zeroFilled 4 bs)
   unfolding zeroFilled
   filled-below = below-append 256 bs (replicate (4 - length bs) 0) (b .small) (zeros-below 256 (4 - length bs) (lit< tt))
@@ -66,7 +67,7 @@ module _ (bs : List ℕ) (b : Bytes bs) where
   filled-octets n h k = ap (take n) filled-digits ∙ filled-take n 4 bs h k
 
 -- the highest octet is the first byte
-first-octet : (bs : List ℕ) → Bytes bs → numberOf 256 (zeroFilled 4 bs) / 16777216 ≡ getD bs 0 0
+first-octet : (bs : List ℕ) → Octets bs → numberOf 256 (zeroFilled 4 bs) / 16777216 ≡ getD bs 0 0
 unfolding zeroFilled
 first-octet [] b = absurd (omega (arith, b .any))
 first-octet (d ∷ ds) b =
@@ -126,42 +127,42 @@ module _ (t : List ℕ) (s : ℕ) (at : s ≡ indexOf 47 t) where
   network-no-size : (k : ℕ) → s < length t → Nothing ≡ asLeading (partOf 999 (behindSlash s t)) k → networkOf t ≡ none
   network-no-size k l h = network-slash l ∙ rw (as-nothing (partOf 999 (behindSlash s t)) k h)
 
-  module _ (v n : ℕ) (h : Octets v n ≡ asGiven (givenOf (take s t))) where
+  module _ (v n : ℕ) (h : Bytes v n ≡ asGiven (givenOf (take s t))) where
     says : (bs : List ℕ) × (givenOf (take s t) ≡ some bs) × (v ≡ numberOf 256 (zeroFilled 4 bs)) × (n ≡ length bs)
-    says = octets-says (givenOf (take s t)) v n h
+    says = bytes-says (givenOf (take s t)) v n h
 
     -- the bytes given
     given : List ℕ
     given = says .0
 
-    are-bytes : Bytes given
+    are-bytes : Octets given
     unfolding given
-    are-bytes = given-bytes (take s t) given (says .1)
+    are-bytes = given-octets (take s t) given (says .1)
 
     pub given-count : n ≤ 4
     unfolding given
     given-count = omega (arith, are-bytes .most, says .3)
 
-    network-inferred : (k size : ℕ) → k ≡ classSize (v / 16777216) → size ≡ widened n k → length t ≤ s → networkOf t ≡ some (network size given)
+    network-inferred : (k size : ℕ) → k ≡ classSize (v / 16777216) → size ≡ widened n k → length t ≤ s → networkOf t ≡ some (completed size given)
     unfolding given inferredSize
     network-inferred k size e f l =
         let first : v / 16777216 ≡ getD given 0 0 = ap (λ (x : ℕ). x / 16777216) (says .2) ∙ first-octet given are-bytes in
         let same : size ≡ inferredSize given = f ∙ ap₂ widened (says .3) (e ∙ ap classSize first) in
-        network-whole l ∙ ap (λ o. sized (Option·map inferredSize o) o) (says .1) ∙ ap (λ (k : ℕ). some (network k given)) (sym same)
+        network-whole l ∙ ap (λ o. sized (Option·map inferredSize o) o) (says .1) ∙ ap (λ (k : ℕ). some (completed k given)) (sym same)
 
-    network-sized : (size k m : ℕ) → s < length t → Number size k ≡ asLeading (partOf 999 (behindSlash s t)) m → networkOf t ≡ some (network size given)
+    network-sized : (size k m : ℕ) → s < length t → Number size k ≡ asLeading (partOf 999 (behindSlash s t)) m → networkOf t ≡ some (completed size given)
     unfolding given
     network-sized size k m l e = network-slash l ∙ ap₂ sized (as-number (partOf 999 (behindSlash s t)) size k m e .0) (says .1)
 
     -- the bytes of the network, as they are stored
-    network-bytes : (size : ℕ) → size ≤ 32 → network size given .bytes ≡ take (max n (sizeBytes size)) (digitsOf 256 4 v)
-    unfolding given network
+    network-bytes : (size : ℕ) → size ≤ 32 → completed size given .bytes ≡ take (max n (sizeBytes size)) (digitsOf 256 4 v)
+    unfolding given completed
     network-bytes size k =
         let m = max (length given) (sizeBytes size) in
         sym (ap₂ (λ (j x : ℕ). take (max j (sizeBytes size)) (digitsOf 256 4 x)) (says .3) (says .2) ∙ filled-octets given are-bytes m (omega arith) (omega (arith, are-bytes .most)))
 
-    network-length : (size : ℕ) → length (network size given .bytes) ≡ max n (sizeBytes size)
-    unfolding given network
+    network-length : (size : ℕ) → length (completed size given .bytes) ≡ max n (sizeBytes size)
+    unfolding given completed
     network-length size = filled-length (max (length given) (sizeBytes size)) given (omega arith) ∙ ap (λ j. max j (sizeBytes size)) (sym (says .3))
 
 -- ---- what is answered
@@ -200,19 +201,19 @@ module _ (t : List ℕ) (s : ℕ) (at : s ≡ indexOf 47 t) (old : List ℕ) (sh
   pub no-size : (k : ℕ) → s < length t → Nothing ≡ asLeading (partOf 999 (behindSlash s t)) k → (refuses (0, 0) Malformed ≡ networkAnswer t old) × (old ≡ networkLeaves t old)
   no-size k l h = answer-malformed t old short (network-no-size t s at k l h)
 
-  module _ (v n : ℕ) (h : Octets v n ≡ asGiven (givenOf (take s t))) where
+  module _ (v n : ℕ) (h : Bytes v n ≡ asGiven (givenOf (take s t))) where
     -- as `store_network` answers it
     abbrev Stored : ℕ → Answer (ℕ × ℕ) → List ℕ → Type 0
     Stored size r new =
         (r ≡ answer (0, 0) (writeRefusal [] (take (max n (sizeBytes size)) (digitsOf 256 4 v)) old) (size, max n (sizeBytes size)))
         × (new ≡ writeLeaves [] (take (max n (sizeBytes size)) (digitsOf 256 4 v)) old)
 
-    network-stored : (size : ℕ) → networkOf t ≡ some (network size (given t s at v n h)) → size ≤ 32 → (r : Answer (ℕ × ℕ)) (new : List ℕ) → Stored size r new → (r ≡ networkAnswer t old) × (new ≡ networkLeaves t old)
-    unfolding network
+    network-stored : (size : ℕ) → networkOf t ≡ some (completed size (given t s at v n h)) → size ≤ 32 → (r : Answer (ℕ × ℕ)) (new : List ℕ) → Stored size r new → (r ≡ networkAnswer t old) × (new ≡ networkLeaves t old)
+    unfolding completed
     network-stored size e most r new p =
         let bytes = network-bytes t s at v n h size most in
         let count = network-length t s at v n h size in
-        let a = answer-stored t old short (network size (given t s at v n h)) e most in
+        let a = answer-stored t old short (completed size (given t s at v n h)) e most in
         (p .0 ∙ ap₂ (λ bs k. answer (0, 0) (writeRefusal [] bs old) (size, k)) (sym bytes) (sym count) ∙ a .0, p .1 ∙ ap (λ bs. writeLeaves [] bs old) (sym bytes) ∙ a .1)
 
     pub inferred-stored : (k size : ℕ) → k ≡ classSize (v / 16777216) → size ≡ widened n k → length t ≤ s → (r : Answer (ℕ × ℕ)) (new : List ℕ) → Stored size r new → (r ≡ networkAnswer t old) × (new ≡ networkLeaves t old)
@@ -220,8 +221,8 @@ module _ (t : List ℕ) (s : ℕ) (at : s ≡ indexOf 47 t) (old : List ℕ) (sh
 
     module _ (size k m : ℕ) (l : s < length t) (e : Number size k ≡ asLeading (partOf 999 (behindSlash s t)) m) where
       pub sized-large : 32 < size → (refuses (0, 0) LengthTooLarge ≡ networkAnswer t old) × (old ≡ networkLeaves t old)
-      unfolding network
-      sized-large = answer-large t old short (network size (given t s at v n h)) (network-sized t s at v n h size k m l e)
+      unfolding completed
+      sized-large = answer-large t old short (completed size (given t s at v n h)) (network-sized t s at v n h size k m l e)
 
       pub sized-stored : size ≤ 32 → (r : Answer (ℕ × ℕ)) (new : List ℕ) → Stored size r new → (r ≡ networkAnswer t old) × (new ≡ networkLeaves t old)
       sized-stored = network-stored size (network-sized t s at v n h size k m l e)

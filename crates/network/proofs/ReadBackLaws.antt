@@ -23,14 +23,14 @@ use Rattle.digits.proofs.PieceLaws.{index-contains}
 use Rattle.digits.proofs.SeparatedLaws.{Lacks, Each, lacks-separated, index-seam}
 use Rattle.dotted.proofs.DottedLaws.{parts-spelling}
 use Rattle.dotted.proofs.EveryLaws.{every-decimal}
-use Rattle.network.specs.Network.{Network, givenOf, sizeBytes, network, zeroFilled, networkOf, networkAnswer, networkLeaves, cleared, networkText}
+use Rattle.network.specs.Network.{Network, givenOf, sizeBytes, completed, zeroFilled, networkOf, networkAnswer, networkLeaves, cleared, networkText}
 use Rattle.network.proofs.NetworkLaws.{answer-stored}
 use Rattle.network.proofs.TextLaws.{cleared-high, text-most}
 
 -- ---- a text with a slash
 
 -- what is given before the first slash, and the size behind it
-slash-network : (s t xs : List ℕ) (size : ℕ) → Lacks 47 s → givenOf s ≡ some xs → partOf 999 t ≡ some size → networkOf (s ++ 47 ∷ t) ≡ some (network size xs)
+slash-network : (s t xs : List ℕ) (size : ℕ) → Lacks 47 s → givenOf s ≡ some xs → partOf 999 t ≡ some size → networkOf (s ++ 47 ∷ t) ≡ some (completed size xs)
 unfolding networkOf
 slash-network s t xs size l e f =
     let at = index-seam 47 s t l in
@@ -55,13 +55,13 @@ module _ (xs : List ℕ) (small : AllBelow 256 xs) (any : 1 ≤ length xs) (most
   octets-given = rw (not-marked (separated 46 (map decimal xs)) (octets-lack 120 refl refl xs) (octets-lack 88 refl refl xs)) (parts-spelling (map decimal xs) xs (every-decimal xs small) any most)
 
   -- with a slash and a size behind them
-  octets-network : (size : ℕ) → size ≤ 999 → networkOf (separated 46 (map decimal xs) ++ 47 ∷ decimal size) ≡ some (network size xs)
+  octets-network : (size : ℕ) → size ≤ 999 → networkOf (separated 46 (map decimal xs) ++ 47 ∷ decimal size) ≡ some (completed size xs)
   unfolding digitOf
   octets-network size h = slash-network (separated 46 (map decimal xs)) (decimal size) xs size (octets-lack 47 refl refl xs) octets-given (decimal-part 999 size h (omega arith))
 
 -- no zeros are missing where there are bytes enough
-network-whole : (size : ℕ) (xs : List ℕ) → sizeBytes size ≤ length xs → network size xs ≡ record { size = size; bytes = xs }
-unfolding network
+network-whole : (size : ℕ) (xs : List ℕ) → sizeBytes size ≤ length xs → completed size xs ≡ record { size = size; bytes = xs }
+unfolding completed
 network-whole size xs h =
     let none-missing : max (length xs) (sizeBytes size) - length xs ≡ 0 = omega arith in
     ap (λ bs. record { size = size; bytes = bs }) (ap (λ (n : ℕ). xs ++ replicate n 0) none-missing ∙ append-nil xs)

@@ -63,19 +63,19 @@ unfoldable pub zeroFilled : ℕ → List ℕ → List ℕ
 zeroFilled n bs = bs ++ replicate (n - length bs) 0
 
 -- "The bytes written are the larger of the bytes given and the size divided by eight, rounded up. Missing ones are zero."
-unfoldable pub network : ℕ → List ℕ → Network
+unfoldable pub completed : ℕ → List ℕ → Network
 unfolding zeroFilled
-network size given = record { size = size; bytes = zeroFilled (max (length given) (sizeBytes size)) given }
+completed size given = record { size = size; bytes = zeroFilled (max (length given) (sizeBytes size)) given }
 
 abbrev pub sized : Option ℕ → Option (List ℕ) → Option Network
 sized none given = none
 sized (some size) none = none
-sized (some size) (some given) = some (network size given)
+sized (some size) (some given) = some (completed size given)
 
 -- "then, if wished, a slash and a size. The text after the slash is read as a part of its own: one to three digits, no leading zero except
 -- `0`." A size above 32 is of the form.
 unfoldable pub networkOf : List ℕ → Option Network
-unfolding givenOf inferredSize network contains indexOf partOf
+unfolding givenOf inferredSize completed contains indexOf partOf
 networkOf t =
     cond (contains 47 t)
     (sized (partOf 999 (drop (suc (indexOf 47 t)) t)) (givenOf (take (indexOf 47 t) t)))

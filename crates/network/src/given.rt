@@ -11,7 +11,7 @@ use dotted::read_parts;
 
 // The bytes as the first octets of a number whose other octets are zero, and how many they are.
 pub enum Given {
-    Octets(u32, usize),
+    Bytes(u32, usize),
     NotGiven,
 }
 
@@ -28,7 +28,7 @@ fn hex_bytes(text: &[u8]) -> Given
     if 8 < digits {
         return Given::NotGiven;
     }
-    Given::Octets(value << (32 - 4 * digits), (digits + 1) / 2)
+    Given::Bytes(value << (32 - 4 * digits), (digits + 1) / 2)
 }
 
 // One to four decimal parts.
@@ -38,7 +38,7 @@ fn part_bytes(text: &[u8]) -> Given
     let Parts::Numbers(value, count) = read_parts(text) else {
         return Given::NotGiven;
     };
-    Given::Octets(value << (32 - 8 * count), count)
+    Given::Bytes(value << (32 - 8 * count), count)
 }
 
 // Either of them.

@@ -85,7 +85,7 @@ pub fn read_network(text: &[u8], out: &mut [u8]) -> NetworkReading
         return NetworkReading::Refused(Refusal::TextTooLong);
     }
     let slash = find(text, b'/');
-    let Given::Octets(value, count) = read_given(&text[..slash]) else {
+    let Given::Bytes(value, count) = read_given(&text[..slash]) else {
         return NetworkReading::Refused(Refusal::Malformed);
     };
     if text.len() <= slash {

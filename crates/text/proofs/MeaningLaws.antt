@@ -120,7 +120,7 @@ groups-address gs e = (
 )
 
 dotted-address : (t : List ℕ) (v : ℕ) → dottedOf t ≡ some v → v < 2 ^ 32
-dotted-address t v e = let o = dotted-octets t v e in subst (λ (n : ℕ). n < 2 ^ 32) (o .3) (number-below 256 4 (o .0) (o .2) (o .1 .small))
+dotted-address t v e = let o = dotted-octets t v e in subst (λ (n : ℕ). n < 2 ^ 32) (o .3) (number-below 256 4 (o .0) (o .2) (o .1 .octets .small))
 
 pub strict-address : (f : ℕ) (t : List ℕ) (a : Address) → strictOf f t ≡ some a → IsAddress a
 unfolding strictOf

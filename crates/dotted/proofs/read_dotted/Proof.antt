@@ -10,7 +10,7 @@ use denote.Ref.{now}
 use lib.ListN.{length}
 use Rattle.octets.specs.BigEndian.{numberOf}
 use Rattle.dotted.specs.Dotted.{partsOf, asDotted}
-use Rattle.dotted.proofs.DottedLaws.{numbers-says, not-parts-says, parts-octets, dotted-parts, dotted-none}
+use Rattle.dotted.proofs.DottedLaws.{numbers-says, not-parts-says, parts-are, dotted-parts, dotted-none}
 use Rattle.dotted.proofs.read_dotted.Statement.{statement}
 use Rattle.dotted.proofs.read_dotted.Tie as tie
 
@@ -43,7 +43,7 @@ returns-3 : tie.Need-returns-3
 returns-3 c =
     let s = said (c .before) in
     let many = s .3 in
-    rw (s .2) (sym (ap asDotted (dotted-parts _ (s .0) (s .1)) ∙ rw (eq-eqb (length (s .0)) 4 (omega (arith, parts-octets _ (s .0) (s .1) .most)))))
+    rw (s .2) (sym (ap asDotted (dotted-parts _ (s .0) (s .1)) ∙ rw (eq-eqb (length (s .0)) 4 (omega (arith, parts-are _ (s .0) (s .1) .octets .most)))))
 
 pub read-dotted-spec : {M : Type 1} → statement M
 read-dotted-spec =

@@ -7,7 +7,7 @@ use denote.Ref.{now}
 use lib.ListN.{take}
 use lib.Seq.{length-take-le}
 use Rattle.digits.proofs.PieceLaws.{index-le}
-use Rattle.network.specs.declared.given.Given.the-variants.{Octets}
+use Rattle.network.specs.declared.given.Given.the-variants.{Bytes}
 use Rattle.network.specs.Inner.{asGiven}
 use Rattle.network.specs.Network.{givenOf}
 use Rattle.network.proofs.NetworkLaws.{given-count, inferred-most, answer-long, none-given, no-size, inferred-stored, sized-large, sized-stored}
@@ -40,7 +40,7 @@ returns-2 c =
 
 -- the bytes given
 said : (c : tie.After-known-told)
-    → Octets (c .before .value .given .0 .0) (c .before .value .given .0 .1 .0)
+    → Bytes (c .before .value .given .0 .0) (c .before .value .given .0 .1 .0)
     ≡ asGiven (givenOf (take (c .before .before .before .before .before .find .result) (now (c .before .before .before .before .before .before .before .before .before .args .text))))
 said c = let v = c .before in sym (v .value .given .1) ∙ v .before .before .read-given .ensures
 
