@@ -1,7 +1,7 @@
 // The classes A, B and C: an IPv4 address split into a network number and a host number, and joined again.
 ghost use mathlib.Core.Path.{_≡_};
 ghost use mathlib.Core.List.{[], _∷_};
-ghost use Prim.Native.Nat.{_+_, _*_, _^_, _<_, _≤_};
+ghost use Prim.Native.Nat.{_+_, _*_, _^_, _<_};
 ghost use lib.Dec.{ltb};
 ghost use Rattle.address.specs.Answers.{answer, noAddress, readingAnswer, refusal};
 ghost use Rattle.address.specs.declared.Address.the-variants.{V4};

@@ -1,10 +1,9 @@
 // The network form of IPv4: a network number and its size, read and written.
 ghost use mathlib.Core.Path.{_≡_};
 ghost use mathlib.Core.Bool.{cond};
-ghost use mathlib.Core.List.{[], _∷_, _++_};
-ghost use Prim.Native.Nat.{_+_, _<_, _≤_, max};
-ghost use lib.Dec.{ltb};
-ghost use lib.ListN.{length, take};
+ghost use mathlib.Core.List.{[], _∷_};
+ghost use Prim.Native.Nat.{_≤_, max};
+ghost use lib.ListN.{take};
 ghost use Rattle.address.specs.Addresses.{number};
 ghost use Rattle.address.specs.Answers.{answer, writeRefusal, writingAnswer, writeAnswer, writeLeaves};
 ghost use Rattle.octets.specs.BigEndian.{digitsOf};
