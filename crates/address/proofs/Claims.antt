@@ -8,7 +8,6 @@ use native.Mathlib.Decide.{decLe, ℕ-discrete}
 use native.Mathlib.Omega.{arith}
 use borrow.Author.Tests.{eqb-true, eq-eqb, ne-eqb}
 use lib.Arith.{digits-lt}
-use lib.Dec.{lit<}
 use lib.ListN.{length, getD}
 use lib.Pow.{high, low}
 use Rattle.cover.specs.Blocks.{IsBlock}
@@ -26,6 +25,7 @@ use Rattle.address.specs.Blocks.{numbered, blockRefusal}
 use Rattle.address.specs.declared.Reading.the-variants as reading
 use Rattle.address.specs.declared.Writing.the-variants as writing
 use Rattle.address.specs.declared.BlockReading.the-variants as block
+use Rattle.address.proofs.AnswerLaws.{number-pos}
 use Rattle.address.proofs.BlockLaws.{refusal-length, refusal-bits, refusal-none}
 
 -- ---- refusals
@@ -51,15 +51,7 @@ one-number e f h = sym (refusal-at e) ∙ ap (λ (n : ℕ). getD refusals (n - 1
 
 -- And none has the number of a good answer.
 pub number-above-0 : (e : Refusal) → 0 < refusalNumber e
-number-above-0 TextTooLong = lit< tt
-number-above-0 Malformed = lit< tt
-number-above-0 NoRoom = lit< tt
-number-above-0 LengthTooLarge = lit< tt
-number-above-0 BitsBeyondLength = lit< tt
-number-above-0 NoClass = lit< tt
-number-above-0 HostTooLarge = lit< tt
-number-above-0 FirstAboveLast = lit< tt
-number-above-0 WrongFamily = lit< tt
+number-above-0 = number-pos
 
 -- A call's refusal is one that holds.
 pub refusal-holds : (reasons : List (ℕ × Bool)) → 0 < refusal reasons → holds (refusal reasons) reasons ≡ true

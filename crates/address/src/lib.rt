@@ -1,9 +1,10 @@
 // An IP address as a value of one of two kinds, why a call says no, and blocks of addresses.
 ghost use mathlib.Core.Path.{_≡_};
+ghost use mathlib.Core.Option.{some};
 ghost use Rattle.wide.specs.Value.{value};
 ghost use Rattle.address.specs.Addresses.{family, width, number, addressOrder, sameAddress};
-ghost use Rattle.address.specs.Answers.{refusalNumber, checkNumber};
-ghost use Rattle.address.specs.Blocks.{blockRefusal, sameBlock};
+ghost use Rattle.address.specs.Answers.{refusalNumber, checkNumber, noBlock, blockAnswer, readAnswer};
+ghost use Rattle.address.specs.Blocks.{blockReasons, blockRefusal, sameBlock};
 use wide::Wide;
 
 // The halves of an IPv6 address are its first and its last 64 bits.
@@ -163,6 +164,16 @@ impl Block {
             return Check::Valid;
         }
         Check::Refused(Refusal::BitsBeyondLength)
+    }
+
+    // The block, where it keeps both rules.
+    pub fn checked(self) -> BlockReading
+        ensures { λ r. ⌜ blockAnswer r ≡ readAnswer noBlock (blockReasons self) (some self) ⌝ }
+    {
+        match self.check() {
+            Check::Valid => BlockReading::Read(self),
+            Check::Refused(e) => BlockReading::Refused(e),
+        }
     }
 
     // Whether address and length are the same.

@@ -1,7 +1,7 @@
 // One step of the walk over a range of addresses: how large the next block is, and where it ends.
 // The same code serves both families: an IPv4 address is a number whose upper half is 0, and the width is 32.
 ghost use mathlib.Core.Path.{_≡_};
-ghost use Prim.Native.Nat.{_+_, min};
+ghost use Prim.Native.Nat.{_+_, _-_, _^_, min};
 ghost use Rattle.wide.specs.Value.{value, log2};
 ghost use Rattle.cover.specs.Blocks.{NextBlock};
 use wide::Wide;
@@ -40,5 +40,48 @@ pub fn next_block(start: Wide, last: Wide, width: u32) -> Step
     Step {
         bits,
         end: start.saturating_add(Wide::ones(bits)),
+    }
+}
+
+// The same step among numbers of 64 bits, which is quicker.
+pub struct NarrowStep {
+    pub bits: u32,
+    pub end: u64,
+}
+
+fn narrow_span(start: u64, last: u64) -> u64
+    ensures { λ r. ⌜ r ≡ last - start ⌝ }
+{
+    if last < start { 0 } else { last - start }
+}
+
+fn narrow_room(span: u64) -> u32
+    ensures { λ r. ⌜ r ≡ log2 64 (span + 1) ⌝ }
+{
+    if span == 18446744073709551615 {
+        return 64;
+    }
+    63 - u64::leading_zeros(span + 1)
+}
+
+// The number whose k lowest bits are one; all 64 of them where k is larger.
+fn narrow_ones(k: u32) -> u64
+    ensures { λ r. ⌜ r ≡ 2 ^ min k 64 - 1 ⌝ }
+{
+    if k < 64 {
+        (1u64 << k) - 1
+    } else {
+        18446744073709551615
+    }
+}
+
+pub fn next_narrow(start: u64, last: u64, width: u32) -> NarrowStep
+    ensures { λ r. ⌜ NextBlock width start last (r .bits) (r .end) ⌝ }
+{
+    let low = smaller(u64::trailing_zeros(start), width);
+    let bits = smaller(low, narrow_room(narrow_span(start, last)));
+    NarrowStep {
+        bits,
+        end: start + narrow_ones(bits),
     }
 }

@@ -6,8 +6,12 @@ use native.Mathlib.Omega.{arith}
 use lib.ListN.{length, take, drop, length-drop}
 use lib.Seq.{take-all}
 
--- a part to the end of a slice is what is left of it
-pub to-end : (k : ℕ) (t : List ℕ) → take (length t - k) (drop k t) ≡ drop k t
+-- the tail slice from k on, as the code lends it
+abbrev pub tail : ℕ → List ℕ → List ℕ
+tail k t = take (length t - k) (drop k t)
+
+-- is what is left of it
+pub to-end : (k : ℕ) (t : List ℕ) → tail k t ≡ drop k t
 to-end k t = take-all (length t - k) (drop k t) (omega (arith, length-drop k t))
 
 pub to-end-shorter : (k m : ℕ) (t : List ℕ) → length t ≤ m → length (take (length t - k) (drop k t)) ≤ m

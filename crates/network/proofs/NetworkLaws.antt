@@ -25,7 +25,7 @@ use Rattle.digits.specs.declared.read.Leading.the-variants.{Number, Nothing}
 use Rattle.digits.specs.Numerals.{partOf, asLeading}
 use Rattle.digits.specs.Pieces.{indexOf}
 use Rattle.digits.proofs.PieceLaws.{index-contains, index-lacks, as-number, as-nothing}
-use Rattle.digits.proofs.SliceLaws.{to-end}
+use Rattle.digits.proofs.SliceLaws.{tail, to-end}
 use Rattle.dotted.proofs.DottedLaws.{Octets}
 use Rattle.network.specs.declared.given.Given.the-variants.{Bytes, NotGiven}
 use Rattle.network.specs.Inner.{asGiven}
@@ -103,12 +103,8 @@ sized-none : (o : Option ℕ) → sized o none ≡ none
 sized-none none = refl
 sized-none (some n) = refl
 
--- the text behind the slash, as the code lends it
-abbrev behindSlash : ℕ → List ℕ → List ℕ
-behindSlash s t = take (length t - (s + 1)) (drop (s + 1) t)
-
 module _ (t : List ℕ) (s : ℕ) (at : s ≡ indexOf 47 t) where
-  network-slash : s < length t → networkOf t ≡ sized (partOf 999 (behindSlash s t)) (givenOf (take s t))
+  network-slash : s < length t → networkOf t ≡ sized (partOf 999 (tail (s + 1) t)) (givenOf (take s t))
   unfolding networkOf
   network-slash l = rw (to-end (s + 1) t, add-one s, at, index-contains 47 t (omega arith))
 
@@ -121,11 +117,11 @@ module _ (t : List ℕ) (s : ℕ) (at : s ≡ indexOf 47 t) where
       let e = not-given-says (givenOf (take s t)) h in
       elim (decLe (length t) s) [
         | yes l ↦ network-whole l ∙ rw e
-        | no l ↦ network-slash (omega arith) ∙ rw e (sized-none (partOf 999 (behindSlash s t)))
+        | no l ↦ network-slash (omega arith) ∙ rw e (sized-none (partOf 999 (tail (s + 1) t)))
       ]
 
-  network-no-size : (k : ℕ) → s < length t → Nothing ≡ asLeading (partOf 999 (behindSlash s t)) k → networkOf t ≡ none
-  network-no-size k l h = network-slash l ∙ rw (as-nothing (partOf 999 (behindSlash s t)) k h)
+  network-no-size : (k : ℕ) → s < length t → Nothing ≡ asLeading (partOf 999 (tail (s + 1) t)) k → networkOf t ≡ none
+  network-no-size k l h = network-slash l ∙ rw (as-nothing (partOf 999 (tail (s + 1) t)) k h)
 
   module _ (v n : ℕ) (h : Bytes v n ≡ asGiven (givenOf (take s t))) where
     says : (bs : List ℕ) × (givenOf (take s t) ≡ some bs) × (v ≡ numberOf 256 (zeroFilled 4 bs)) × (n ≡ length bs)
@@ -150,9 +146,9 @@ module _ (t : List ℕ) (s : ℕ) (at : s ≡ indexOf 47 t) where
         let same : size ≡ inferredSize given = f ∙ ap₂ widened (says .3) (e ∙ ap classSize first) in
         network-whole l ∙ ap (λ o. sized (Option·map inferredSize o) o) (says .1) ∙ ap (λ (k : ℕ). some (completed k given)) (sym same)
 
-    network-sized : (size k m : ℕ) → s < length t → Number size k ≡ asLeading (partOf 999 (behindSlash s t)) m → networkOf t ≡ some (completed size given)
+    network-sized : (size k m : ℕ) → s < length t → Number size k ≡ asLeading (partOf 999 (tail (s + 1) t)) m → networkOf t ≡ some (completed size given)
     unfolding given
-    network-sized size k m l e = network-slash l ∙ ap₂ sized (as-number (partOf 999 (behindSlash s t)) size k m e .0) (says .1)
+    network-sized size k m l e = network-slash l ∙ ap₂ sized (as-number (partOf 999 (tail (s + 1) t)) size k m e .0) (says .1)
 
     -- the bytes of the network, as they are stored
     network-bytes : (size : ℕ) → size ≤ 32 → completed size given .bytes ≡ take (max n (sizeBytes size)) (digitsOf 256 4 v)
@@ -198,7 +194,7 @@ module _ (t : List ℕ) (s : ℕ) (at : s ≡ indexOf 47 t) (old : List ℕ) (sh
   pub none-given : NotGiven ≡ asGiven (givenOf (take s t)) → (refuses (0, 0) Malformed ≡ networkAnswer t old) × (old ≡ networkLeaves t old)
   none-given h = answer-malformed t old short (network-not-given t s at h)
 
-  pub no-size : (k : ℕ) → s < length t → Nothing ≡ asLeading (partOf 999 (behindSlash s t)) k → (refuses (0, 0) Malformed ≡ networkAnswer t old) × (old ≡ networkLeaves t old)
+  pub no-size : (k : ℕ) → s < length t → Nothing ≡ asLeading (partOf 999 (tail (s + 1) t)) k → (refuses (0, 0) Malformed ≡ networkAnswer t old) × (old ≡ networkLeaves t old)
   no-size k l h = answer-malformed t old short (network-no-size t s at k l h)
 
   module _ (v n : ℕ) (h : Bytes v n ≡ asGiven (givenOf (take s t))) where
@@ -219,7 +215,7 @@ module _ (t : List ℕ) (s : ℕ) (at : s ≡ indexOf 47 t) (old : List ℕ) (sh
     pub inferred-stored : (k size : ℕ) → k ≡ classSize (v / 16777216) → size ≡ widened n k → length t ≤ s → (r : Answer (ℕ × ℕ)) (new : List ℕ) → Stored size r new → (r ≡ networkAnswer t old) × (new ≡ networkLeaves t old)
     inferred-stored k size e f l = network-stored size (network-inferred t s at v n h k size e f l) (inferred-most n (v / 16777216) k size (given-count t s at v n h) e f)
 
-    module _ (size k m : ℕ) (l : s < length t) (e : Number size k ≡ asLeading (partOf 999 (behindSlash s t)) m) where
+    module _ (size k m : ℕ) (l : s < length t) (e : Number size k ≡ asLeading (partOf 999 (tail (s + 1) t)) m) where
       pub sized-large : 32 < size → (refuses (0, 0) LengthTooLarge ≡ networkAnswer t old) × (old ≡ networkLeaves t old)
       unfolding completed
       sized-large = answer-large t old short (completed size (given t s at v n h)) (network-sized t s at v n h size k m l e)

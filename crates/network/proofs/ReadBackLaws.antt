@@ -1,26 +1,24 @@
 -- What the text of a network is read as. Assumes nothing.
 use mathlib.Core.Path.{_≡_, refl, sym, ap, ap₂, _∙_}
-use mathlib.Core.Bool.{true, false}
-use mathlib.Core.List.{List, [], _∷_, _++_, map, append-nil}
+use mathlib.Core.Bool.{false}
+use mathlib.Core.List.{List, _∷_, _++_, map, append-nil}
 use mathlib.Core.Option.{some}
-use Prim.Native.Nat.{ℕ, zero, suc, _+_, _-_, _*_, _/_, _^_, _≤_, max}
+use Prim.Native.Nat.{ℕ, zero, _+_, _-_, _*_, _/_, _^_, _≤_, max}
 use native.Mathlib.Nat.{mul-assoc, one-le-pow}
-use native.Mathlib.Numerals.{add-one}
 use native.Mathlib.Omega.{arith}
 use borrow.Author.Tests.{le-ltb}
 use lib.Dec.{eqb, lit≤, lit<}
-use lib.ListN.{length, take, drop, replicate, length-append}
+use lib.ListN.{length, take, drop, replicate}
 use lib.Pow.{pow-add}
-use lib.Seq.{length-take-le, take-append-seam, drop-append-add, take-at}
+use lib.Seq.{length-take-le, take-at}
 use Rattle.address.specs.Answers.{gives, refusal, writeLeaves}
 use Rattle.octets.specs.BigEndian.{AllBelow, digitsOf}
 use Rattle.octets.proofs.DigitLaws.{digits-length, digits-below, below-take, digits-split, digits-zero, bits-power}
 use Rattle.digits.specs.Numerals.{digitOf, decimal, partOf}
-use Rattle.digits.specs.Pieces.{contains, separated}
-use Rattle.digits.proofs.NumeralLaws.{no-digit, numeral-digits, decimal-part}
+use Rattle.digits.specs.Pieces.{separated}
+use Rattle.digits.proofs.NumeralLaws.{decimal-part}
 use Rattle.digits.proofs.MarkLaws.{not-marked}
-use Rattle.digits.proofs.PieceLaws.{index-contains}
-use Rattle.digits.proofs.SeparatedLaws.{Lacks, Each, lacks-separated, index-seam}
+use Rattle.digits.proofs.SeparatedLaws.{Lacks, seam, numerals-lack}
 use Rattle.dotted.proofs.DottedLaws.{parts-spelling}
 use Rattle.dotted.proofs.EveryLaws.{every-decimal}
 use Rattle.network.specs.Network.{Network, givenOf, sizeBytes, completed, zeroFilled, networkOf, networkAnswer, networkLeaves, cleared, networkText}
@@ -32,22 +30,13 @@ use Rattle.network.proofs.TextLaws.{cleared-high, text-most}
 -- what is given before the first slash, and the size behind it
 slash-network : (s t xs : List ℕ) (size : ℕ) → Lacks 47 s → givenOf s ≡ some xs → partOf 999 t ≡ some size → networkOf (s ++ 47 ∷ t) ≡ some (completed size xs)
 unfolding networkOf
-slash-network s t xs size l e f =
-    let at = index-seam 47 s t l in
-    let has : contains 47 (s ++ 47 ∷ t) ≡ true = index-contains 47 (s ++ 47 ∷ t) (omega (arith, at, length-append s (47 ∷ t))) in
-    let behind : drop (suc (length s)) (s ++ 47 ∷ t) ≡ t = rw (← add-one (length s)) (drop-append-add s (47 ∷ t) 1) in
-    rw (has, at, behind, take-append-seam s (47 ∷ t), e, f)
+slash-network s t xs size l e f = let w = seam 47 s t l in rw (w .0, w .1, w .2, e, f)
 
 -- ---- octets in decimal, with dots
 
 -- no byte but digits and dots
-module _ (b : ℕ) (n : digitOf b ≡ 16) where
-  decimals-lack : (xs : List ℕ) → Each (Lacks b) (map decimal xs)
-  decimals-lack [] = tt
-  decimals-lack (x ∷ xs) = (no-digit 10 b (decimal x) (lit≤ tt) n (numeral-digits 10 3 x (lit≤ tt) (lit< tt) (lit≤ tt) .all), decimals-lack xs)
-
-  octets-lack : eqb 46 b ≡ false → (xs : List ℕ) → Lacks b (separated 46 (map decimal xs))
-  octets-lack d xs = lacks-separated 46 b d (map decimal xs) (decimals-lack xs)
+octets-lack : (b : ℕ) → digitOf b ≡ 16 → eqb 46 b ≡ false → (xs : List ℕ) → Lacks b (separated 46 (map decimal xs))
+octets-lack b = numerals-lack 10 3 46 b (lit≤ tt) (lit< tt) (lit≤ tt)
 
 module _ (xs : List ℕ) (small : AllBelow 256 xs) (any : 1 ≤ length xs) (most : length xs ≤ 4) where
   octets-given : givenOf (separated 46 (map decimal xs)) ≡ some xs

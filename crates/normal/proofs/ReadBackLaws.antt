@@ -19,8 +19,8 @@ use Rattle.octets.proofs.Claims.{halves-of-groups}
 use Rattle.octets.proofs.DigitLaws.{digits-length, digits-number, digits-below, below-take, below-drop}
 use Rattle.digits.specs.Numerals.{digitOf, groupOf, decimal, hex}
 use Rattle.digits.specs.Pieces.{contains}
-use Rattle.digits.proofs.NumeralLaws.{hex-group, no-digit, numeral-digits}
-use Rattle.digits.proofs.SeparatedLaws.{Lacks, Each, lacks-append, lacks-separated}
+use Rattle.digits.proofs.NumeralLaws.{hex-group}
+use Rattle.digits.proofs.SeparatedLaws.{Lacks, lacks-append, numerals-lack}
 use Rattle.text.specs.Strict.{eightOf, strictOf, strictAnswer}
 use Rattle.text.proofs.FamilyLaws.{colon-not-dotted, eight-colon}
 use Rattle.text.proofs.SpellingLaws.{dotted-spelling, eight-spelling, gap-spelling}
@@ -112,24 +112,29 @@ text-answer a h =
     let read = text-read a h in
     (strict-gives 0 t a refl (omega arith) (read .0), strict-gives (family a) t a (family-asked a) (omega arith) (read .1))
 
--- ---- no dot among groups
+-- ---- what no normal text holds
 
-hex-lacks : (gs : List ℕ) → Each (Lacks 46) (map hex gs)
-unfolding digitOf
-hex-lacks [] = tt
-hex-lacks (g ∷ gs) = (no-digit 16 46 (hex g) (lit≤ tt) refl (numeral-digits 16 4 g (lit≤ tt) (lit< tt) (lit≤ tt) .all), hex-lacks gs)
+-- groups hold hex digits and colons alone
+module _ (b : ℕ) (n : digitOf b ≡ 16) (d : eqb 58 b ≡ false) where
+  groups-lack : (gs : List ℕ) → Lacks b (groupsText gs)
+  unfolding groupsText
+  groups-lack = numerals-lack 16 4 58 b (lit≤ tt) (lit< tt) (lit≤ tt) n d
 
-groups-lack : (gs : List ℕ) → Lacks 46 (groupsText gs)
-unfolding groupsText
-groups-lack gs = lacks-separated 58 46 refl (map hex gs) (hex-lacks gs)
+  pub normal-lacks : (gs : List ℕ) → Lacks b (normalGroups gs)
+  unfolding normalGroups shortened contains
+  normal-lacks gs = pick (ltb (longestRun gs) 2) (firstRun (longestRun gs) gs) (longestRun gs)
+    where
+      pick : (p : Bool) (s n : ℕ) → Lacks b (cond p (groupsText gs) (shortened s n gs))
+      pick true s n = groups-lack gs
+      pick false s n = lacks-append b (groupsText (take s gs)) (58 ∷ 58 ∷ groupsText (drop (s + n) gs)) (groups-lack (take s gs)) (rw d (groups-lack (drop (s + n) gs)))
 
+-- no dot in IPv6 text
 pub text-6-lacks : (hi lo : ℕ) → Lacks 46 (normalText (V6 hi lo))
-unfolding normalText contains
-text-6-lacks hi lo = go (groupsOf hi lo)
-  where
-    go : (gs : List ℕ) → Lacks 46 (normalGroups gs)
-    go gs = pick (ltb (longestRun gs) 2) (firstRun (longestRun gs) gs) (longestRun gs)
-      where
-        pick : (b : Bool) (s n : ℕ) → Lacks 46 (cond b (groupsText gs) (shortened s n gs))
-        pick true s n = groups-lack gs
-        pick false s n = lacks-append 46 (groupsText (take s gs)) (58 ∷ 58 ∷ groupsText (drop (s + n) gs)) (groups-lack (take s gs)) (groups-lack (drop (s + n) gs))
+unfolding normalText digitOf
+text-6-lacks hi lo = normal-lacks 46 refl refl (groupsOf hi lo)
+
+-- and no slash in any
+pub text-lacks-slash : (a : Address) → Lacks 47 (normalText a)
+unfolding normalText dottedText digitOf
+text-lacks-slash (V4 v) = numerals-lack 10 3 46 47 (lit≤ tt) (lit< tt) (lit≤ tt) refl refl (digitsOf 256 4 v)
+text-lacks-slash (V6 hi lo) = normal-lacks 47 refl refl (groupsOf hi lo)

@@ -1,0 +1,2 @@
+-- BlockText: the text of a block, read and written.
+pub mod BlockText
