@@ -2,7 +2,7 @@
 ghost use mathlib.Core.Path.{_≡_};
 ghost use Rattle.address.specs.Answers.{blockAnswer, writingAnswer, writeAnswer, writeLeaves};
 ghost use Rattle.address.specs.Blocks.{blockReasons};
-ghost use Rattle.digits.specs.Placing.{Puts};
+ghost use Rattle.output.specs.Placing.{Puts};
 ghost use Rattle.blocks.specs.BlockText.{blockTextAnswer, blockText};
 use address::Block;
 use address::BlockReading;
@@ -13,10 +13,10 @@ use address::Writing;
 use digits::read::Leading;
 use digits::read::find;
 use digits::read::whole_part;
-use digits::write::put;
-use digits::write::put_decimal;
-use digits::write::store;
 use normal::put_address;
+use output::put;
+use output::put_decimal;
+use output::store;
 use text::read_address;
 
 // The block of a text of either family.

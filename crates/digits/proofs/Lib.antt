@@ -1,13 +1,11 @@
 -- NumeralLaws: what a numeral reads as, and what a piece that is read holds. SeparatedLaws: pieces with separators, split again.
 -- LeadingLaws: the digits that a text begins with. PartLaws: decimal parts and groups among them. PieceLaws: the piece before a separator.
--- IndexLaws: the first of a byte. SliceLaws: the rest of a slice. PlacingLaws: bytes put into a buffer one after the other. WriteLaws: numerals as the code writes them. MarkLaws: `0x` and `0X`.
+-- IndexLaws: the first of a byte. SliceLaws: the rest of a slice. MarkLaws: `0x` and `0X`.
 pub mod NumeralLaws
 pub mod SeparatedLaws
 pub mod LeadingLaws
 pub mod PartLaws
 pub mod PieceLaws
 pub mod IndexLaws
-pub mod PlacingLaws
-pub mod WriteLaws
 pub mod SliceLaws
 pub mod MarkLaws

@@ -1,4 +1,3 @@
--- Numerals: numbers in text. Pieces: text between separators. Placing: bytes put into a buffer.
+-- Numerals: numbers in text. Pieces: text between separators.
 pub mod Numerals
 pub mod Pieces
-pub mod Placing

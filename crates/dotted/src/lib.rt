@@ -1,11 +1,11 @@
 // IPv4 text: four decimal parts with dots, read and written.
 ghost use mathlib.Core.Path.{_≡_};
-ghost use Rattle.digits.specs.Placing.{Puts};
+ghost use Rattle.output.specs.Placing.{Puts};
 ghost use Rattle.dotted.specs.Dotted.{asParts, partsOf, asDotted, dottedOf, dottedText};
 use digits::read::Leading;
 use digits::read::leading_part;
-use digits::write::put;
-use digits::write::put_decimal;
+use output::put;
+use output::put_decimal;
 
 // One to four parts of a text: the number that they write as octets, and how many they are.
 pub enum Parts {

@@ -19,7 +19,7 @@ use Rattle.octets.proofs.DigitLaws.{four-digits, digits-length}
 use Rattle.digits.specs.Numerals.{decimal}
 use Rattle.digits.specs.Pieces.{separated}
 use Rattle.digits.proofs.SeparatedLaws.{numerals-most}
-use Rattle.digits.proofs.WriteLaws.{decimal-written}
+use Rattle.output.proofs.WriteLaws.{decimal-written}
 use Rattle.network.specs.Network.{sizeBytes, cleared, networkText, writeReasons}
 
 -- ---- bits beyond the size cleared

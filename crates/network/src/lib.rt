@@ -8,7 +8,7 @@ ghost use Rattle.address.specs.Addresses.{number};
 ghost use Rattle.address.specs.Answers.{answer, writeRefusal, writingAnswer, writeAnswer, writeLeaves};
 ghost use Rattle.octets.specs.BigEndian.{digitsOf};
 ghost use Rattle.digits.specs.Numerals.{decimal};
-ghost use Rattle.digits.specs.Placing.{Puts};
+ghost use Rattle.output.specs.Placing.{Puts};
 ghost use Rattle.network.specs.Network.{classSize, widened, sizeBytes, networkReadingAnswer, networkAnswer, networkLeaves, cleared, networkText, writeReasons};
 use address::Address;
 use address::Refusal;
@@ -16,12 +16,12 @@ use address::Writing;
 use digits::read::Leading;
 use digits::read::find;
 use digits::read::whole_part;
-use digits::write::put;
-use digits::write::put_decimal;
-use digits::write::store;
 use given::Given;
 use given::read_given;
 use octets::bytes::write_octets;
+use output::put;
+use output::put_decimal;
+use output::store;
 
 mod given;
 

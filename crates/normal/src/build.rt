@@ -1,11 +1,11 @@
 // Normal text of eight groups, put together in a lent array.
 ghost use Prim.Native.Nat.{_≤_};
 ghost use lib.Seq.{slice};
-ghost use Rattle.digits.specs.Placing.{Puts};
+ghost use Rattle.output.specs.Placing.{Puts};
 ghost use Rattle.normal.specs.Normal.{groupsText, normalGroups};
 use crate::runs::longest_run;
-use digits::write::put;
-use digits::write::put_hex;
+use output::put;
+use output::put_hex;
 
 // Puts the groups from `from` to before `to` in hexadecimal, with colons between them.
 fn put_groups(text: &mut [u8], at: usize, groups: [u16; 8], from: usize, to: usize) -> usize

@@ -2,14 +2,14 @@
 ghost use mathlib.Core.Path.{_≡_};
 ghost use mathlib.Core.List.{[]};
 ghost use Rattle.address.specs.Answers.{writingAnswer, writeAnswer, writeLeaves};
-ghost use Rattle.digits.specs.Placing.{Puts};
+ghost use Rattle.output.specs.Placing.{Puts};
 ghost use Rattle.normal.specs.Normal.{normalText};
 use address::Address;
 use address::Writing;
 use build::put_eight;
-use digits::write::store;
 use dotted::put_dotted;
 use octets::groups::groups;
+use output::store;
 
 mod build;
 mod runs;

@@ -1,6 +1,6 @@
 -- `blocks::put_block` meets its contract. Assumes nothing.
 use borrow.Author.Needs.{needs}
-use Rattle.digits.proofs.PlacingLaws.{puts-then}
+use Rattle.output.proofs.PlacingLaws.{puts-then}
 use Rattle.blocks.specs.BlockText.{blockText}
 use Rattle.blocks.proofs.put_block.Statement.{statement}
 use Rattle.blocks.proofs.put_block.Tie as tie

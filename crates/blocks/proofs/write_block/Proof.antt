@@ -5,7 +5,7 @@ use borrow.Author.Needs.{needs}
 use lib.ListN.{length, take}
 use Rattle.address.specs.Answers.{checkNumber}
 use Rattle.address.proofs.BlockLaws.{write-valid, write-refused}
-use Rattle.digits.proofs.PlacingLaws.{puts-whole}
+use Rattle.output.proofs.PlacingLaws.{puts-whole}
 use Rattle.blocks.specs.BlockText.{blockText}
 use Rattle.blocks.proofs.BlockTextLaws.{text-most}
 use Rattle.blocks.proofs.write_block.Statement.{statement}

@@ -4,7 +4,7 @@ use borrow.Author.Needs.{needs}
 use lib.Dec.{lit<}
 use Rattle.octets.proofs.DigitLaws.{four-digits}
 use Rattle.digits.specs.Pieces.{separated}
-use Rattle.digits.proofs.PlacingLaws.{puts-then}
+use Rattle.output.proofs.PlacingLaws.{puts-then}
 use Rattle.dotted.specs.Dotted.{dottedText}
 use Rattle.dotted.proofs.put_dotted.Statement.{statement}
 use Rattle.dotted.proofs.put_dotted.Tie as tie

@@ -1,7 +1,7 @@
 -- `network::put_network` meets its contract. Assumes nothing.
 use native.Mathlib.Omega.{arith}
 use borrow.Author.Needs.{needs}
-use Rattle.digits.proofs.PlacingLaws.{puts-then}
+use Rattle.output.proofs.PlacingLaws.{puts-then}
 use Rattle.network.proofs.TextLaws.{text-put}
 use Rattle.network.proofs.put_network.Statement.{statement}
 use Rattle.network.proofs.put_network.Tie as tie

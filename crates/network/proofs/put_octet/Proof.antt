@@ -1,6 +1,6 @@
 -- `network::put_octet` meets its contract. Assumes nothing.
 use borrow.Author.Needs.{needs}
-use Rattle.digits.proofs.PlacingLaws.{puts-then, puts-none}
+use Rattle.output.proofs.PlacingLaws.{puts-then, puts-none}
 use Rattle.network.proofs.put_octet.Statement.{statement}
 use Rattle.network.proofs.put_octet.Tie as tie
 

@@ -5,7 +5,7 @@ use Prim.Native.Nat.{ℕ}
 use native.Mathlib.Omega.{arith}
 use borrow.Author.Needs.{needs}
 use lib.ListN.{length, take}
-use Rattle.digits.proofs.PlacingLaws.{puts-whole}
+use Rattle.output.proofs.PlacingLaws.{puts-whole}
 use Rattle.network.specs.Network.{networkText}
 use Rattle.network.proofs.TextLaws.{text-most, write-6, write-large, write-sized}
 use Rattle.network.proofs.write_network.Statement.{statement}

@@ -3,7 +3,7 @@ use mathlib.Core.Path.{_≡_, sym, ap, _∙_}
 use native.Mathlib.Omega.{arith}
 use borrow.Author.Needs.{needs}
 use lib.ListN.{length, take}
-use Rattle.digits.proofs.PlacingLaws.{puts-whole}
+use Rattle.output.proofs.PlacingLaws.{puts-whole}
 use Rattle.normal.specs.Normal.{normalText}
 use Rattle.normal.proofs.BoundLaws.{text-most}
 use Rattle.normal.proofs.write_address.Statement.{statement}

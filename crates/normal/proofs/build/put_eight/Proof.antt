@@ -2,7 +2,7 @@
 use mathlib.Core.Path.{_≡_}
 use borrow.Author.Needs.{needs}
 use lib.ListN.{length}
-use Rattle.digits.proofs.PlacingLaws.{puts-then}
+use Rattle.output.proofs.PlacingLaws.{puts-then}
 use Rattle.normal.proofs.GroupsTextLaws.{no-run, around-run}
 use Rattle.normal.proofs.build.put_eight.Statement.{statement}
 use Rattle.normal.proofs.build.put_eight.Tie as tie

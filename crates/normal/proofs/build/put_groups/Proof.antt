@@ -6,8 +6,8 @@ use native.Mathlib.Omega.{arith}
 use borrow.Author.Needs.{needs}
 use lib.ListN.{length}
 use lib.Seq.{slice}
-use Rattle.digits.specs.Placing.{Puts}
-use Rattle.digits.proofs.PlacingLaws.{puts-none, puts-then, puts-length}
+use Rattle.output.specs.Placing.{Puts}
+use Rattle.output.proofs.PlacingLaws.{puts-none, puts-then, puts-length}
 use Rattle.normal.specs.Normal.{groupsText}
 use Rattle.normal.proofs.GroupsTextLaws.{no-group, first-group, next-group}
 use Rattle.normal.proofs.build.put_groups.Statement.{statement}

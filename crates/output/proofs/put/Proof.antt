@@ -1,8 +1,8 @@
--- `digits::write::put` meets its contract. Assumes nothing.
+-- `output::put` meets its contract. Assumes nothing.
 use borrow.Author.Needs.{needs}
-use Rattle.digits.proofs.PlacingLaws.{puts-byte, puts-full}
-use Rattle.digits.proofs.write.put.Statement.{statement}
-use Rattle.digits.proofs.write.put.Tie as tie
+use Rattle.output.proofs.PlacingLaws.{puts-byte, puts-full}
+use Rattle.output.proofs.put.Statement.{statement}
+use Rattle.output.proofs.put.Tie as tie
 
 returns : tie.Need-returns
 returns c = puts-full _ _ _ (c .if1 .taken)

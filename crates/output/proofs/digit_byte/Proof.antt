@@ -1,9 +1,9 @@
--- `digits::write::digit_byte` meets its contract. Assumes nothing.
+-- `output::digit_byte` meets its contract. Assumes nothing.
 use borrow.Author.Tests.{lt-ltb, le-ltb}
 use borrow.Author.Needs.{needs}
 use Rattle.digits.specs.Numerals.{digitByte}
-use Rattle.digits.proofs.write.digit_byte.Statement.{statement}
-use Rattle.digits.proofs.write.digit_byte.Tie as tie
+use Rattle.output.proofs.digit_byte.Statement.{statement}
+use Rattle.output.proofs.digit_byte.Tie as tie
 
 cast-result : tie.Need-cast-result
 cast-result c = search needs

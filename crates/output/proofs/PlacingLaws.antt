@@ -7,7 +7,7 @@ use native.Mathlib.Numerals.{unary-clauses}
 use native.Mathlib.Omega.{arith}
 use lib.ListN.{length, take, set, length-append, take-append-drop}
 use lib.Seq.{take-length, take-take, take-append-seam}
-use Rattle.digits.specs.Placing.{placed, behind, Puts}
+use Rattle.output.specs.Placing.{placed, behind, Puts}
 
 -- ---- placing, one byte of the buffer after the other
 

@@ -1,11 +1,11 @@
--- `digits::write::put_hex` meets its contract. Assumes nothing.
+-- `output::put_hex` meets its contract. Assumes nothing.
 use native.Mathlib.Omega.{arith}
 use borrow.Author.Needs.{needs}
 use lib.Dec.{lit<}
-use Rattle.digits.proofs.PlacingLaws.{puts-then}
-use Rattle.digits.proofs.WriteLaws.{numeral-written}
-use Rattle.digits.proofs.write.put_hex.Statement.{statement}
-use Rattle.digits.proofs.write.put_hex.Tie as tie
+use Rattle.output.proofs.PlacingLaws.{puts-then}
+use Rattle.output.proofs.WriteLaws.{numeral-written}
+use Rattle.output.proofs.put_hex.Statement.{statement}
+use Rattle.output.proofs.put_hex.Tie as tie
 
 digit-byte-requires : tie.Need-digit-byte-requires
 digit-byte-requires c κs = search needs

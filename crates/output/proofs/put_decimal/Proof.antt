@@ -1,10 +1,10 @@
--- `digits::write::put_decimal` meets its contract. Assumes nothing.
+-- `output::put_decimal` meets its contract. Assumes nothing.
 use native.Mathlib.Omega.{arith}
 use borrow.Author.Needs.{needs}
-use Rattle.digits.proofs.PlacingLaws.{puts-then}
-use Rattle.digits.proofs.WriteLaws.{decimal-written}
-use Rattle.digits.proofs.write.put_decimal.Statement.{statement}
-use Rattle.digits.proofs.write.put_decimal.Tie as tie
+use Rattle.output.proofs.PlacingLaws.{puts-then}
+use Rattle.output.proofs.WriteLaws.{decimal-written}
+use Rattle.output.proofs.put_decimal.Statement.{statement}
+use Rattle.output.proofs.put_decimal.Tie as tie
 
 add-put-if : tie.Need-add-put-if
 add-put-if c = search needs

@@ -1,8 +1,8 @@
--- `digits::write::put_if` meets its contract. Assumes nothing.
+-- `output::put_if` meets its contract. Assumes nothing.
 use borrow.Author.Needs.{needs}
-use Rattle.digits.proofs.PlacingLaws.{puts-none}
-use Rattle.digits.proofs.write.put_if.Statement.{statement}
-use Rattle.digits.proofs.write.put_if.Tie as tie
+use Rattle.output.proofs.PlacingLaws.{puts-none}
+use Rattle.output.proofs.put_if.Statement.{statement}
+use Rattle.output.proofs.put_if.Tie as tie
 
 put-requires : tie.Need-put-requires
 put-requires c κs = search needs

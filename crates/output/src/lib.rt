@@ -4,8 +4,8 @@ ghost use mathlib.Core.Bool.{cond};
 ghost use mathlib.Core.List.{[], _∷_};
 ghost use Prim.Native.Nat.{_<_};
 ghost use Rattle.address.specs.Answers.{writingAnswer, writeAnswer, writeLeaves};
 ghost use Rattle.digits.specs.Numerals.{decimal, hex, digitByte};
-ghost use Rattle.digits.specs.Placing.{Puts};
+ghost use Rattle.output.specs.Placing.{Puts};
 use address::Refusal;
 use address::Writing;
 

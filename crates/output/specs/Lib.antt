@@ -1,0 +1,2 @@
+-- Placing: bytes put into a buffer.
+pub mod Placing
