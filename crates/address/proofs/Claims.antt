@@ -127,9 +127,9 @@ same-means (V6 hi lo) (V6 hi′ lo′) h k = (
 
 -- ---- blocks
 
-number-below : (a : Address) → IsAddress a → number a < 2 ^ width a
-number-below (V4 v) h = h
-number-below (V6 hi lo) h = digits-lt (h .0) (h .1)
+pub address-below : (a : Address) → IsAddress a → number a < 2 ^ width a
+address-below (V4 v) h = h
+address-below (V6 hi lo) h = digits-lt (h .0) (h .1)
 
 -- A block value is not refused exactly if it is a block of its family's width.
 pub valid-means : (b : Block) → IsAddress (b .address) → (blockRefusal b ≡ 0) ↔ IsBlock (width (b .address)) (numbered b)
@@ -144,7 +144,7 @@ valid-means b h = (to, from)
     to : blockRefusal b ≡ 0 → IsBlock W (numbered b)
     to e = elim (decLe (b .length) W) [
       | yes s ↦ elim (ℕ-discrete rest 0) [
-        | yes z ↦ record { below = number-below (b .address) h; short = s; aligned = z }
+        | yes z ↦ record { below = address-below (b .address) h; short = s; aligned = z }
         | no n ↦ absurd (omega (arith, e, refusal-bits b s (ne-eqb rest 0 n)))
       ]
       | no n ↦ absurd (omega (arith, e, refusal-length b (omega (arith, n))))

@@ -1,24 +1,23 @@
 -- A record as the code puts it and reads it, and records read back. Assumes nothing.
 use mathlib.Core.Path.{_≡_, refl, sym, ap, ap₂, _∙_}
-use mathlib.Core.Bool.{Bool, true, false, cond}
-use mathlib.Core.List.{List, [], _∷_, _++_, append-assoc, append-nil}
-use mathlib.Core.Option.{Option, some, none}
-use Prim.Native.Nat.{ℕ, zero, suc, _+_, _-_, _*_, _/_, _^_, _≤_, _<_}
+use mathlib.Core.List.{List, [], _∷_, _++_, append-assoc}
+use mathlib.Core.Option.{some, none}
+use Prim.Native.Nat.{ℕ, suc, _+_, _-_, _*_, _/_, _^_, _≤_, _<_}
 use native.Mathlib.Nat.{mul-suc}
 use native.Mathlib.Decide.{ℕ-discrete}
 use native.Mathlib.Omega.{arith}
-use borrow.Author.Tests.{eq-eqb, ne-eqb}
-use lib.Dec.{eqb, lit<}
+use borrow.Author.Tests.{ne-eqb}
+use lib.Dec.{lit<}
 use lib.ListN.{length, take, drop, getD, set, length-append, length-drop}
 use lib.Seq.{length-take-le, take-at, drop-at, getD-at, drop-drop}
 use Rattle.cover.specs.Blocks as cover
 use Rattle.address.specs.declared.Address.{Address}
-use Rattle.address.specs.declared.Address.the-variants.{V4, V6}
+use Rattle.address.specs.declared.Address.the-variants.{V4}
 use Rattle.address.specs.declared.Block.{Block}
 use Rattle.address.specs.declared.Refusal.{Refusal}
 use Rattle.address.specs.declared.Refusal.the-variants.{NoRoom, Malformed}
-use Rattle.address.specs.Addresses.{width, number, IsAddress}
-use Rattle.address.specs.Answers.{Answer, gives, refuses, refusal, noAddress, noBlock, readAnswer, writeAnswer, writeLeaves}
+use Rattle.address.specs.Addresses.{width, number}
+use Rattle.address.specs.Answers.{Answer, gives, refuses, noAddress, noBlock, readAnswer, writeAnswer, writeLeaves}
 use Rattle.address.specs.Blocks.{numbered, blockReasons}
 use Rattle.address.proofs.AnswerLaws.{number-pos, write-short, write-fits}
 use Rattle.octets.specs.BigEndian.{digitsOf, numberOf}
@@ -147,12 +146,6 @@ pub records-length : (W : ℕ) (bs : List cover.Block) → length (recordsOf W b
 unfolding recordsOf
 records-length W [] = omega arith
 records-length W (b ∷ bs) = omega (arith, length-append (recordOf W b) (recordsOf W bs), record-length W b, records-length W bs, mul-suc (recordSize W) (length bs))
-
--- a record behind others
-pub records-behind : (W : ℕ) (bs : List cover.Block) (b : cover.Block) → recordsOf W (bs ++ b ∷ []) ≡ recordsOf W bs ++ recordOf W b
-unfolding recordsOf
-records-behind W [] b = append-nil (recordOf W b)
-records-behind W (c ∷ bs) b = ap (λ r. recordOf W c ++ r) (records-behind W bs b) ∙ sym (append-assoc (recordOf W c) (recordsOf W bs) (recordOf W b))
 
 -- W bits are whole octets
 module _ (W : ℕ) (whole : 256 ^ (W / 8) ≡ 2 ^ W) where
