@@ -2,19 +2,14 @@
 use mathlib.Core.Path.{_≡_, refl, sym, ap, ap₂, subst, _∙_}
 use mathlib.Core.Logic.{_⊎_, inl, inr}
 use mathlib.Core.Bool.{Bool, true, false}
-use mathlib.Core.List.{List, [], _∷_, _++_}
+use mathlib.Core.List.{List, _++_}
 use Prim.Native.Nat.{ℕ, _*_, _%_, _^_, _≤_, _<_}
 use native.Mathlib.Nat.{mul-comm}
 use native.Mathlib.Omega.{arith}
 use borrow.Author.Tests.{eq-eqb, ne-eqb, lt-ltb, le-ltb, leb-true, leb-false}
-use denote.Laws.{Is}
-use denote.Enum.Declared.{row}
-use denote.Enum.Laws.{val}
 use lib.Dec.{leb}
 use lib.ListN.{length, drop}
 use Rattle.cover.specs.Blocks.{rangeBlocks}
-use Rattle.address.proofs.Address.{the-type}
-use Rattle.address.proofs.Address.Laws.{the-laws}
 use Rattle.address.specs.declared.Address.{Address}
 use Rattle.address.specs.declared.Address.the-variants.{V4, V6}
 use Rattle.address.specs.declared.Refusal.the-variants.{NoRoom, FirstAboveLast, WrongFamily}
@@ -26,11 +21,6 @@ use Rattle.records.proofs.RecordLaws.{records-length}
 use Rattle.ranges.specs.Ranges.{blocksOf, rangeRecords, rangeAnswer, rangeLeaves}
 
 -- ---- addresses
-
--- what the type of a parameter tells
-pub is-address : (a : Address) → Is (row the-type) a (val the-type the-laws a ∷ []) → IsAddress a
-is-address (V4 v) h = omega arith
-is-address (V6 hi lo) h = (omega arith, omega arith)
 
 two-widths : (a : Address) → (width a ≡ 32) ⊎ (width a ≡ 128)
 two-widths (V4 v) = inl refl

@@ -1,0 +1,2 @@
+-- Lines: the input of the range program cut into lines.
+pub mod Lines
