@@ -4,15 +4,16 @@ use mathlib.Core.Bool.{Bool, true, false, cond}
 use mathlib.Core.List.{List, [], _∷_}
 use mathlib.Core.Option.{Option, some, none, Option·map}
 use Prim.Native.Nat.{ℕ, zero, suc, _+_, _-_, _*_, _^_, _%_, _≤_, _<_}
-use native.Mathlib.Nat.{one-mul, pow-le-pow-right}
+use native.Mathlib.Nat.{pow-le-pow-right}
 use native.Mathlib.Numerals.{add-one}
 use native.Mathlib.Omega.{arith}
 use borrow.Author.Tests.{lt-ltb, le-ltb, ltb-true, leb-false}
 use lib.Arith.{digits-lt}
 use lib.Dec.{ltb, leb, lit<}
 use lib.ListN.{length, take, drop, getD}
-use lib.Pow.{pow-add, shl-exact}
+use lib.Pow.{pow-add}
 use lib.Seq.{take-all}
+use Rattle.wide.proofs.Halves.{one-shifted}
 use Rattle.address.specs.declared.Address.{Address}
 use Rattle.address.specs.declared.Address.the-variants.{V4}
 use Rattle.address.specs.declared.Refusal.the-variants.{TextTooLong, Malformed}
@@ -37,7 +38,7 @@ lastPart v x left = cond (ltb x (256 ^ left)) (some (V4 (v * 256 ^ left + x))) n
 
 -- the room that the code computes
 pub shifted : (left : ℕ) → left ≤ 4 → 1 * 2 ^ (8 * left) % 2 ^ 64 ≡ 256 ^ left
-shifted left h = shl-exact 1 (8 * left) 64 (omega arith) (omega arith) ∙ one-mul (2 ^ (8 * left)) ∙ sym (bits-power 8 left)
+shifted left h = one-shifted (8 * left) (omega arith) ∙ sym (bits-power 8 left)
 
 module _ (v x left : ℕ) where
   pub last-fits : left ≤ 4 → v < 256 ^ (4 - left) → x < 256 ^ left → v * 256 ^ left + x < 2 ^ 32

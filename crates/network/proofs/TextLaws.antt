@@ -3,14 +3,14 @@ use mathlib.Core.Path.{_≡_, refl, sym, ap, _∙_}
 use mathlib.Core.Bool.{Bool, true, false, cond}
 use mathlib.Core.List.{List, [], _∷_, _++_, map, append-assoc}
 use Prim.Native.Nat.{ℕ, _+_, _-_, _*_, _/_, _%_, _^_, _≤_, _<_, max}
-use native.Mathlib.Nat.{one-mul}
 use native.Mathlib.Decide.{decLe}
 use native.Mathlib.Omega.{arith}
 use borrow.Author.Tests.{lt-ltb, le-ltb, lt-leb}
 use lib.Dec.{leb, ltb, lit≤, lit<}
 use lib.ListN.{length, take, length-append}
-use lib.Pow.{shl-exact, split}
+use lib.Pow.{split}
 use lib.Seq.{length-take-le}
+use Rattle.wide.proofs.Halves.{one-shifted}
 use Rattle.address.specs.declared.Address.the-variants.{V4, V6}
 use Rattle.address.specs.declared.Refusal.the-variants.{LengthTooLarge, WrongFamily}
 use Rattle.address.specs.Answers.{Answer, refuses, writeAnswer, writeLeaves}
@@ -26,7 +26,7 @@ use Rattle.network.specs.Network.{sizeBytes, cleared, networkText, write
 
 -- 64 bits have room for the power of every size
 pub shifted : (size : ℕ) → 1 * 2 ^ (32 - size) % 2 ^ 64 ≡ 2 ^ (32 - size)
-shifted size = shl-exact 1 (32 - size) 64 (omega arith) (omega arith) ∙ one-mul (2 ^ (32 - size))
+shifted size = one-shifted (32 - size) (omega arith)
 
 -- the bits of the size alone
 pub cleared-high : (W size v : ℕ) → cleared W size v ≡ v / 2 ^ (W - size) * 2 ^ (W - size)

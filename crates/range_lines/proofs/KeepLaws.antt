@@ -3,21 +3,13 @@ use mathlib.Core.Path.{_≡_, sym, ap, _∙_}
 use mathlib.Core.List.{List, [], _∷_, _++_, append-assoc, append-nil}
 use Prim.Native.Nat.{ℕ, suc, _+_, _≤_, _<_, min}
 use native.Mathlib.Numerals.{add-one}
-use native.Mathlib.Decide.{decLe}
 use native.Mathlib.Omega.{arith}
 use lib.ListN.{length, take, drop, getD, set, length-append, length-set, length-take, take-append-drop}
-use lib.Seq.{take-all, take-suc, take-suc-set, take-take, take-append-le}
+use lib.Seq.{take-all, take-suc, take-suc-set, take-append-le}
 use Rattle.range_lines.specs.Lines.{kept}
 
 pub kept-all : (l : List ℕ) → length l ≤ 130 → kept l ≡ l
 kept-all l h = take-all 130 l h
-
--- what is cut off of a line before more bytes come would be cut off behind them too
-pub kept-append : (p t : List ℕ) → kept (kept p ++ t) ≡ kept (p ++ t)
-kept-append p t = elim (decLe (length p) 130) [
-  | yes h ↦ ap (λ q. kept (q ++ t)) (kept-all p h)
-  | no n ↦ take-append-le 130 (kept p) t (omega (arith, length-take 130 p)) ∙ take-take 130 130 p (omega arith) ∙ sym (take-append-le 130 p t (omega arith))
-]
 
 -- ---- what has been kept
 

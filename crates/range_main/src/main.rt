@@ -98,5 +98,8 @@ fn main() {
     );
     let at = flush(&out, s.used);
     let end = finish(s.pending, &mut out, at);
-    io::write_all(STDOUT_FILENO, &out[..end]);
+    let written = io::write_all(STDOUT_FILENO, &out[..end]);
+    if !written {
+        os::fail(b"nibharrow ranges");
+    }
 }

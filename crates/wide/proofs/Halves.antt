@@ -2,13 +2,14 @@
 -- The base is a variable, since `omega` takes no numeral of 128 bits.
 use mathlib.Core.Path.{_≡_, sym, ap, _∙_}
 use mathlib.Core.Bool.{false}
-use Prim.Native.Nat.{ℕ, _+_, _-_, _*_, _^_, _≤_, _<_, min}
+use Prim.Native.Nat.{ℕ, _+_, _-_, _*_, _%_, _^_, _≤_, _<_, min}
 use native.Mathlib.Nat.{add-mul, one-mul, zero-mul, mul-le-mul-right}
 use native.Mathlib.Decide.{decLt, ℕ-discrete}
 use native.Mathlib.Omega.{arith}
 use borrow.Author.Tests.{lt-ltb, le-ltb, eq-eqb, ne-eqb}
 use lib.Arith.{digits-lt}
 use lib.Dec.{ltb, eqb}
+use lib.Pow.{shl-exact}
 use Rattle.wide.specs.declared.Wide.{Wide}
 use Rattle.wide.specs.Value.{value}
 
@@ -79,3 +80,9 @@ high-none b h l z = let e : h ≡ 0 = omega arith in rw e (omega (arith, zero-mu
 -- a wide number has 128 bits
 pub value-lt : (w : Wide) → w .hi < 2 ^ 64 → w .lo < 2 ^ 64 → value w < 2 ^ 128
 value-lt w h l = digits-lt h l
+
+-- ---- one half
+
+-- a one that is shifted by less than the width
+pub one-shifted : (k : ℕ) → k < 64 → 1 * 2 ^ k % 2 ^ 64 ≡ 2 ^ k
+one-shifted k h = shl-exact 1 k 64 (omega arith) (omega arith) ∙ one-mul (2 ^ k)
