@@ -1,0 +1,56 @@
+-- What is claimed of the refusals in words. Assumes nothing.
+use mathlib.Core.Path.{_≡_, refl}
+use mathlib.Core.Bool.{Bool, true, false, cond, _&&_, false≢true}
+use mathlib.Core.List.{List, [], _∷_}
+use mathlib.Core.Option.{some, Option·getD}
+use Prim.Native.Nat.{ℕ}
+use lib.Dec.{leb, eqb}
+use lib.ListN.{length}
+use Rattle.address.specs.declared.Refusal.{Refusal}
+use Rattle.address.specs.declared.Refusal.the-variants.{TextTooLong, Malformed, NoRoom, LengthTooLarge, BitsBeyondLength, NoClass, HostTooLarge, FirstAboveLast, WrongFamily}
+use Rattle.address.specs.Answers.{refusalNumber, missing}
+use Rattle.digits.specs.Numerals.{within}
+use Rattle.words.specs.Words.{table, wordsIn, refusalWords, wordsText}
+
+-- Every refusal has its words.
+pub every-refusal : (e : Refusal) → missing (refusalWords (refusalNumber e)) ≡ false
+unfolding refusalWords
+every-refusal TextTooLong = refl
+every-refusal Malformed = refl
+every-refusal NoRoom = refl
+every-refusal LengthTooLarge = refl
+every-refusal BitsBeyondLength = refl
+every-refusal NoClass = refl
+every-refusal HostTooLarge = refl
+every-refusal FirstAboveLast = refl
+every-refusal WrongFamily = refl
+
+-- every byte is printable ASCII
+unfoldable pub printable : List ℕ → Bool
+printable [] = true
+printable (c ∷ t) = within 32 126 c && printable t
+
+-- at most 54 printable bytes
+abbrev good : List ℕ → Bool
+good t = leb (length t) 54 && printable t
+
+-- a row's words are good where all rows' are
+all : List (ℕ × List ℕ) → Bool
+all [] = true
+all (w ∷ ws) = good (w .1) && all ws
+
+row-good : (n : ℕ) (ws : List (ℕ × List ℕ)) → all ws ≡ true → good (Option·getD (wordsIn n ws) []) ≡ true
+unfolding wordsIn printable all
+row-good n [] h = refl
+row-good n (w ∷ ws) h = pick (eqb n (w .0)) (good (w .1)) refl (all ws) refl (row-good n ws) h
+  where
+    pick : (t a : Bool) → good (w .1) ≡ a → (b : Bool) → all ws ≡ b → (all ws ≡ true → good (Option·getD (wordsIn n ws) []) ≡ true) → (a && b) ≡ true → good (Option·getD (cond t (some (w .1)) (wordsIn n ws)) []) ≡ true
+    pick true true e b f ih k = e
+    pick false true e true f ih k = ih f
+    pick t false e b f ih k = absurd (false≢true k)
+    pick false true e false f ih k = absurd (false≢true k)
+
+-- The words of any number are at most 54 bytes of printable ASCII.
+pub at-most-54 : (n : ℕ) → (leb (length (wordsText n)) 54 && printable (wordsText n)) ≡ true
+unfolding refusalWords printable all
+at-most-54 n = row-good n table refl

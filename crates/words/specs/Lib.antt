@@ -1,0 +1,2 @@
+-- Words: the refusals in words.
+pub mod Words

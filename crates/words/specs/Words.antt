@@ -1,0 +1,38 @@
+-- The refusals in words (01, "Why a call says no"). Assumes nothing.
+use mathlib.Core.Bool.{Bool, cond}
+use mathlib.Core.List.{List, [], _∷_}
+use mathlib.Core.Option.{Option, some, none, Option·getD}
+use Prim.Native.Nat.{ℕ}
+use lib.Dec.{eqb}
+use Rattle.address.specs.Answers.{missing}
+use Rattle.digits.specs.Ascii.{ascii}
+
+-- the table's numbers, each with its words
+abbrev pub table : List (ℕ × List ℕ)
+table =
+    (1, ascii "the text is longer than 64 bytes")
+    ∷ (2, ascii "the text or the bytes are not of the form asked for")
+    ∷ (3, ascii "the buffer is shorter than the answer")
+    ∷ (4, ascii "the length or size is above the bits of an address")
+    ∷ (5, ascii "the block's address has a one bit beyond its length")
+    ∷ (6, ascii "the address or network number is of no class")
+    ∷ (7, ascii "the host number is too large for its network's class")
+    ∷ (8, ascii "the first address is above the last")
+    ∷ (9, ascii "the address family is unknown, mixed or not meant here")
+    ∷ []
+
+-- the words beside a number
+unfoldable pub wordsIn : ℕ → List (ℕ × List ℕ) → Option (List ℕ)
+wordsIn n [] = none
+wordsIn n (w ∷ ws) = cond (eqb n (w .0)) (some (w .1)) (wordsIn n ws)
+
+unfoldable pub refusalWords : ℕ → Option (List ℕ)
+unfolding wordsIn ascii
+refusalWords n = wordsIn n table
+
+-- what is written for a number, and the reason against one that is not of the table: it is "not of the form asked for"
+abbrev pub wordsText : ℕ → List ℕ
+wordsText n = Option·getD (refusalWords n) []
+
+abbrev pub wordsReasons : ℕ → List (ℕ × Bool)
+wordsReasons n = (2, missing (refusalWords n)) ∷ []
