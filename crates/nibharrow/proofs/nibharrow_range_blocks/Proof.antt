@@ -1,0 +1,59 @@
+-- `nibharrow::nibharrow_range_blocks` meets its contract. Assumes nothing.
+use mathlib.Core.Path.{_≡_, refl, sym, ap, _∙_}
+use Rattle.address.specs.Answers.{noAddress, readingAnswer}
+use Rattle.nibharrow.specs.Interface.{rangeInto}
+use Rattle.nibharrow.proofs.InterfaceLaws.{both, to-same, when-given, when-refused}
+use borrow.Author.Needs.{needs}
+use Rattle.nibharrow.proofs.nibharrow_range_blocks.Statement.{statement}
+use Rattle.nibharrow.proofs.nibharrow_range_blocks.Tie as tie
+
+read-octets-requires : tie.Need-read-octets-requires
+read-octets-requires c κs = search needs
+
+enum-known-a : tie.Need-enum-known-a
+enum-known-a c = search needs
+
+read-octets-requires-2 : tie.Need-read-octets-requires-2
+read-octets-requires-2 c κs = search needs
+
+put-range-requires : tie.Need-put-range-requires
+put-range-requires c κs = search needs
+
+enum-known-e : tie.Need-enum-known-e
+enum-known-e c = search needs
+
+as-range-written-requires : tie.Need-as-range-written-requires
+as-range-written-requires c κs = search needs
+
+same-length : tie.Need-same-length
+same-length c = search needs
+
+returns : tie.Need-returns
+unfolding rangeInto
+returns c =
+    let p = c .before .before in
+    let o = p .before .before in
+    let r = o .before .before in
+    to-same _ _ _ _ _ (p .put-range .ensures) (o .read-octets2 .ensures)
+    ∙ when-given _ _ _ (r .a .given .0 .0) (ap readingAnswer (sym (r .a .given .1)) ∙ r .before .before .read-octets .ensures)
+
+returns-2 : tie.Need-returns-2
+unfolding rangeInto
+returns-2 c =
+    let r = c .before .before in
+    both (c .as-range-written .ensures) refl
+    ∙ when-refused _ _ _ noAddress (r .e .given .0 .0) (ap readingAnswer (sym (r .e .given .1)) ∙ r .before .before .read-octets .ensures)
+
+pub nibharrow-range-blocks-spec : {M : Type 1} → statement M
+nibharrow-range-blocks-spec =
+    tie.close
+    (tie.spec
+    read-octets-requires
+    enum-known-a
+    read-octets-requires-2
+    put-range-requires
+    enum-known-e
+    as-range-written-requires
+    same-length
+    returns
+    returns-2)

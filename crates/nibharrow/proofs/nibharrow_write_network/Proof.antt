@@ -1,0 +1,63 @@
+-- `nibharrow::nibharrow_write_network` meets its contract. Assumes nothing.
+use mathlib.Core.Path.{_≡_, refl, sym, ap, _∙_}
+use Rattle.address.specs.Answers.{noAddress, readingAnswer}
+use Rattle.nibharrow.specs.Interface.{networkWritten}
+use Rattle.nibharrow.proofs.InterfaceLaws.{both, wrote, when-given, when-refused, size-cut}
+use borrow.Author.Needs.{needs}
+use Rattle.nibharrow.proofs.nibharrow_write_network.Statement.{statement}
+use Rattle.nibharrow.proofs.nibharrow_write_network.Tie as tie
+
+read-octets-requires : tie.Need-read-octets-requires
+read-octets-requires c κs = search needs
+
+enum-known-a : tie.Need-enum-known-a
+enum-known-a c = search needs
+
+as-byte-requires : tie.Need-as-byte-requires
+as-byte-requires c κs = search needs
+
+write-network-requires : tie.Need-write-network-requires
+write-network-requires c κs = search needs
+
+as-written-requires : tie.Need-as-written-requires
+as-written-requires c κs = search needs
+
+enum-known-e : tie.Need-enum-known-e
+enum-known-e c = search needs
+
+refused-requires : tie.Need-refused-requires
+refused-requires c κs = search needs
+
+same-length : tie.Need-same-length
+same-length c = search needs
+
+returns : tie.Need-returns
+unfolding networkWritten
+returns c =
+    let w = c .before .before .before in
+    let r = w .before .before .before .before in
+    wrote _ _ _ (c .as-written .ensures) (w .write-network .ensures)
+    ∙ size-cut (r .a .given .0 .0) _ _ _ (w .before .before .as-byte .ensures)
+    ∙ when-given _ _ _ (r .a .given .0 .0) (ap readingAnswer (sym (r .a .given .1)) ∙ r .before .before .read-octets .ensures)
+
+returns-2 : tie.Need-returns-2
+unfolding networkWritten
+returns-2 c =
+    let r = c .before .before in
+    both (c .refused .ensures) refl
+    ∙ when-refused _ _ _ noAddress (r .e .given .0 .0) (ap readingAnswer (sym (r .e .given .1)) ∙ r .before .before .read-octets .ensures)
+
+pub nibharrow-write-network-spec : {M : Type 1} → statement M
+nibharrow-write-network-spec =
+    tie.close
+    (tie.spec
+    read-octets-requires
+    enum-known-a
+    as-byte-requires
+    write-network-requires
+    as-written-requires
+    enum-known-e
+    refused-requires
+    same-length
+    returns
+    returns-2)

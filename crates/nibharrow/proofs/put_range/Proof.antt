@@ -1,0 +1,53 @@
+-- `nibharrow::put_range` meets its contract. Assumes nothing.
+use mathlib.Core.Path.{_≡_, refl, sym, ap, _∙_}
+use Rattle.address.specs.Answers.{noAddress, readingAnswer}
+use Rattle.nibharrow.specs.Interface.{rangeTo}
+use Rattle.nibharrow.proofs.InterfaceLaws.{both, when-given, when-refused}
+use borrow.Author.Needs.{needs}
+use Rattle.nibharrow.proofs.put_range.Statement.{statement}
+use Rattle.nibharrow.proofs.put_range.Tie as tie
+
+enum-known-last : tie.Need-enum-known-last
+enum-known-last c = search needs
+
+range-blocks-requires : tie.Need-range-blocks-requires
+range-blocks-requires c κs = search needs
+
+as-range-written-requires : tie.Need-as-range-written-requires
+as-range-written-requires c κs = search needs
+
+enum-known-last-2 : tie.Need-enum-known-last-2
+enum-known-last-2 c = search needs
+
+as-range-written-requires-2 : tie.Need-as-range-written-requires-2
+as-range-written-requires-2 c κs = search needs
+
+same-length : tie.Need-same-length
+same-length c = search needs
+
+returns : tie.Need-returns
+unfolding rangeTo
+returns c =
+    let w = c .before .before .before in
+    let r = w .before .before .before in
+    both (c .as-range-written .ensures ∙ w .range-blocks .ensures .0) (w .range-blocks .ensures .1)
+    ∙ when-given _ _ _ (r .last .given .0 .0) (ap readingAnswer (sym (r .last .given .1)))
+
+returns-2 : tie.Need-returns-2
+unfolding rangeTo
+returns-2 c =
+    let r = c .before .before in
+    both (c .as-range-written2 .ensures) refl ∙ when-refused _ _ _ noAddress (r .last2 .given .0 .0) (ap readingAnswer (sym (r .last2 .given .1)))
+
+pub put-range-spec : {M : Type 1} → statement M
+put-range-spec =
+    tie.close
+    (tie.spec
+    enum-known-last
+    range-blocks-requires
+    as-range-written-requires
+    enum-known-last-2
+    as-range-written-requires-2
+    same-length
+    returns
+    returns-2)

@@ -1,0 +1,53 @@
+-- `nibharrow::put_reading` meets its contract. Assumes nothing.
+use mathlib.Core.Path.{_≡_, refl, sym, ap, _∙_}
+use Rattle.address.specs.Answers.{noAddress, readingAnswer}
+use Rattle.nibharrow.specs.Interface.{addressInto}
+use Rattle.nibharrow.proofs.InterfaceLaws.{both, wrote, when-given, when-refused}
+use borrow.Author.Needs.{needs}
+use Rattle.nibharrow.proofs.put_reading.Statement.{statement}
+use Rattle.nibharrow.proofs.put_reading.Tie as tie
+
+enum-known-reading : tie.Need-enum-known-reading
+enum-known-reading c = search needs
+
+write-octets-requires : tie.Need-write-octets-requires
+write-octets-requires c κs = search needs
+
+as-written-requires : tie.Need-as-written-requires
+as-written-requires c κs = search needs
+
+enum-known-reading-2 : tie.Need-enum-known-reading-2
+enum-known-reading-2 c = search needs
+
+refused-requires : tie.Need-refused-requires
+refused-requires c κs = search needs
+
+same-length : tie.Need-same-length
+same-length c = search needs
+
+returns : tie.Need-returns
+unfolding addressInto
+returns c =
+    let w = c .before .before .before in
+    let r = w .before .before .before in
+    wrote _ _ _ (c .as-written .ensures) (w .write-octets .ensures)
+    ∙ when-given _ _ _ (r .reading .given .0 .0) (ap readingAnswer (sym (r .reading .given .1)))
+
+returns-2 : tie.Need-returns-2
+unfolding addressInto
+returns-2 c =
+    let r = c .before .before in
+    both (c .refused .ensures) refl ∙ when-refused _ _ _ noAddress (r .reading2 .given .0 .0) (ap readingAnswer (sym (r .reading2 .given .1)))
+
+pub put-reading-spec : {M : Type 1} → statement M
+put-reading-spec =
+    tie.close
+    (tie.spec
+    enum-known-reading
+    write-octets-requires
+    as-written-requires
+    enum-known-reading-2
+    refused-requires
+    same-length
+    returns
+    returns-2)

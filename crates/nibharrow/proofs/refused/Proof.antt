@@ -1,0 +1,17 @@
+-- `nibharrow::refused` meets its contract. Assumes nothing.
+use mathlib.Core.Path.{_≡_, refl, sym, ap, _∙_}
+use borrow.Author.Needs.{needs}
+use Rattle.nibharrow.proofs.refused.Statement.{statement}
+use Rattle.nibharrow.proofs.refused.Tie as tie
+
+number-requires : tie.Need-number-requires
+number-requires c κs = search needs
+
+cast-t3 : tie.Need-cast-t3
+cast-t3 c = search needs
+
+returns : tie.Need-returns
+returns c = λ i. record { number = c .number .ensures i; fields = 0 }
+
+pub refused-spec : {M : Type 1} → statement M
+refused-spec = tie.close (tie.spec number-requires cast-t3 returns)

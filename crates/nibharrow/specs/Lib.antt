@@ -1,0 +1,2 @@
+-- Interface: what each call of the C interface answers and leaves.
+pub mod Interface
