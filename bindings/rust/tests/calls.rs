@@ -1,0 +1,364 @@
+//! Every call on both sides: what it accepts, and each refusal it can give.
+
+use std::net::{IpAddr, Ipv4Addr, Ipv6Addr};
+
+use nibharrow::Refusal::*;
+use nibharrow::*;
+
+fn v4(text: &str) -> Ipv4Addr {
+    read_ipv4(text).unwrap()
+}
+
+fn ip(text: &str) -> IpAddr {
+    read_address(text).unwrap()
+}
+
+fn block(text: &str) -> Block {
+    text.parse().unwrap()
+}
+
+/// Text of 64 bytes is read, if only to find it malformed; text of 65 is not.
+fn checks_text<T: std::fmt::Debug + PartialEq>(read: impl Fn(&[u8]) -> Result<T, Refusal>) {
+    assert_eq!(read(&[b'f'; 64]), Err(Malformed));
+    assert_eq!(read(&[b'f'; 65]), Err(TextTooLong));
+    for text in [
+        &b""[..],
+        b" ",
+        b"\0",
+        b"\xff",
+        b"1.2.3.4\0",
+        b" 1.2.3.4",
+        b"1.2.3.4 ",
+        b"1.2.3.4\n",
+    ] {
+        assert_eq!(read(text), Err(Malformed), "{text:?}");
+    }
+}
+
+/// A text goes to the start of a buffer that has room, and later bytes stay. No byte changes in one
+/// that has none.
+fn checks_room(text: &str, write: impl Fn(&mut [u8]) -> Result<&str, Refusal>) {
+    let mut out = [b'?'; 64];
+    assert_eq!(write(&mut out[..text.len()]), Ok(text));
+    let mut out = [b'?'; 64];
+    assert_eq!(write(&mut out), Ok(text));
+    assert!(out[text.len()..].iter().all(|byte| *byte == b'?'));
+    let mut out = [b'?'; 64];
+    assert_eq!(write(&mut out[..text.len() - 1]), Err(NoRoom));
+    assert_eq!(write(&mut []), Err(NoRoom));
+    assert_eq!(out, [b'?'; 64]);
+}
+
+#[test]
+fn refusals() {
+    for number in 1..=9 {
+        let refusal = Refusal::from_number(number).unwrap();
+        assert_eq!(refusal.number(), number);
+    }
+    for number in [0, 10, 256 + 2, u32::MAX] {
+        assert_eq!(Refusal::from_number(number), None);
+    }
+    let error: Box<dyn std::error::Error> = Box::new(FirstAboveLast);
+    assert_eq!(error.to_string(), "the first address is above the last");
+    assert_eq!(format!("{NoRoom:.10}|"), "the buffer|");
+}
+
+#[test]
+fn reading_addresses() {
+    assert_eq!(
+        read_address("10.0.0.12"),
+        Ok(Ipv4Addr::new(10, 0, 0, 12).into())
+    );
+    assert_eq!(read_address("::1"), Ok(Ipv6Addr::LOCALHOST.into()));
+    assert_eq!(
+        read_address(b"255.255.255.255"),
+        Ok(Ipv4Addr::BROADCAST.into())
+    );
+    assert_eq!(
+        read_address(String::from("::")),
+        Ok(Ipv6Addr::UNSPECIFIED.into())
+    );
+    for text in [
+        "010.0.0.12",
+        "1.2.3",
+        "1.2.3.4.5",
+        "1.2.3.256",
+        "1..2.3",
+        "0x7f.0.0.1",
+        "1.2.3.4:80",
+        "1.2.3.4/32",
+        "1:2:3:4:5:6:7:8::",
+        "1:2:3:4:5:6:7",
+        ":::",
+        "1::2::3",
+        "12345::",
+        "g::",
+        "fe80::1%eth0",
+        "[::1]",
+        "::1.2.3",
+    ] {
+        assert_eq!(read_address(text), Err(Malformed), "{text}");
+    }
+    checks_text(|text| read_address(text));
+}
+
+#[test]
+fn reading_addresses_of_a_family() {
+    let (four, six) = ("10.0.0.12", "2001:db8::1");
+    assert_eq!(Family::default(), Family::Either);
+    assert_eq!(read_address_of(Family::Either, four), Ok(ip(four)));
+    assert_eq!(read_address_of(Family::Either, six), Ok(ip(six)));
+    assert_eq!(read_address_of(Family::V4, four), Ok(ip(four)));
+    assert_eq!(read_address_of(Family::V4, six), Err(Malformed));
+    assert_eq!(read_address_of(Family::V6, four), Err(Malformed));
+    assert_eq!(read_address_of(Family::V6, six), Ok(ip(six)));
+
+    assert_eq!(read_ipv4(four), Ok(Ipv4Addr::new(10, 0, 0, 12)));
+    assert_eq!(read_ipv4(six), Err(Malformed));
+    assert_eq!(
+        read_ipv6(six),
+        Ok(Ipv6Addr::new(0x2001, 0xdb8, 0, 0, 0, 0, 0, 1))
+    );
+    assert_eq!(read_ipv6(four), Err(Malformed));
+    checks_text(|text| read_address_of(Family::V6, text));
+    checks_text(|text| read_ipv4(text));
+    checks_text(|text| read_ipv6(text));
+}
+
+#[test]
+fn writing_addresses() {
+    for (text, normal) in [
+        ("10.0.0.12", "10.0.0.12"),
+        ("1:2:3:4:5:6:7::", "1:2:3:4:5:6:7:0"),
+        ("0:0:0:0:0:FFFF:204.152.189.116", "::ffff:cc98:bd74"),
+        ("2001:db8:0:0:1:0:0:1", "2001:db8::1:0:0:1"),
+        ("::", "::"),
+    ] {
+        assert_eq!(write_address(ip(text)), normal);
+        checks_room(normal, |out| write_address_into(ip(text), out));
+    }
+}
+
+#[test]
+fn reading_the_loose_form() {
+    for (text, address) in [
+        ("010.0.0.12", [8, 0, 0, 12]),
+        ("226.000.000.037", [226, 0, 0, 31]),
+        ("0x7f.1", [127, 0, 0, 1]),
+        ("1.2.65535", [1, 2, 255, 255]),
+        ("0", [0, 0, 0, 0]),
+        ("4294967295", [255, 255, 255, 255]),
+    ] {
+        assert_eq!(read_loose(text), Ok(address.into()), "{text}");
+    }
+    for text in [
+        "1.2.65536",
+        "08.0.0.1",
+        "0x",
+        "4294967296",
+        "1.2.3.4.5",
+        "256.1",
+    ] {
+        assert_eq!(read_loose(text), Err(Malformed), "{text}");
+    }
+    checks_text(|text| read_loose(text));
+}
+
+#[test]
+fn reading_networks() {
+    for (text, size, octets, written) in [
+        ("193.168", 24, &[193, 168, 0][..], "193.168.0/24"),
+        ("193.168.1.128/24", 24, &[193, 168, 1, 128], "193.168.1/24"),
+        ("224.1", 4, &[224, 1], "224/4"),
+        ("0xabc", 16, &[0xab, 0xc0], "171.192/16"),
+        ("10/0", 0, &[10], "0/0"),
+    ] {
+        let network = read_network(text).unwrap();
+        assert_eq!((network.size(), network.octets()), (size, octets), "{text}");
+        assert_eq!(
+            write_network(network.address(), network.size()).as_deref(),
+            Ok(written)
+        );
+    }
+    assert_eq!(read_network("10"), read_network("10/8"));
+    assert_ne!(read_network("10"), read_network("10.0/8"));
+    assert_eq!(read_network("10/33"), Err(LengthTooLarge));
+    assert_eq!(read_network("10/08"), Err(Malformed));
+    checks_text(|text| read_network(text));
+}
+
+#[test]
+fn writing_networks() {
+    let address = v4("193.168.1.128");
+    checks_room("193.168.1/24", |out| write_network_into(address, 24, out));
+    for size in [33, 255] {
+        assert_eq!(write_network(address, size), Err(LengthTooLarge));
+        // Room is what a call asks about last.
+        assert_eq!(
+            write_network_into(address, size, &mut []),
+            Err(LengthTooLarge)
+        );
+    }
+}
+
+#[test]
+fn classes() {
+    for (address, network, host) in [
+        ("0.0.0.0", 0, 0),
+        ("127.255.255.255", 127, 16_777_215),
+        ("128.0.0.0", 32_768, 0),
+        ("191.255.255.255", 49_151, 65_535),
+        ("192.0.0.0", 12_582_912, 0),
+        ("223.255.255.255", 14_680_063, 255),
+    ] {
+        assert_eq!(split(v4(address)), Ok((network, host)));
+        assert_eq!(join(network, host), Ok(v4(address)));
+    }
+    assert_eq!(split(v4("224.0.0.0")), Err(NoClass));
+    assert_eq!(split(v4("255.255.255.255")), Err(NoClass));
+    for network in [128, 32_767, 49_152, 12_582_911, 14_680_064, u32::MAX] {
+        assert_eq!(join(network, u32::MAX), Err(NoClass));
+    }
+    for (network, host) in [(10, 16_777_216), (32_768, 65_536), (12_582_912, 256)] {
+        assert_eq!(join(network, host), Err(HostTooLarge));
+    }
+}
+
+#[test]
+fn making_blocks() {
+    let made = Block::new(ip("10.0.0.0"), 31).unwrap();
+    assert_eq!((made.address(), made.length()), (ip("10.0.0.0"), 31));
+    for (address, length, refusal) in [
+        ("10.0.0.1", 31, BitsBeyondLength),
+        ("10.0.0.0", 33, LengthTooLarge),
+        ("10.0.0.1", 255, LengthTooLarge),
+        ("::1", 127, BitsBeyondLength),
+        ("::", 129, LengthTooLarge),
+    ] {
+        assert_eq!(Block::new(ip(address), length), Err(refusal));
+    }
+    assert!(Block::new(ip("0.0.0.0"), 0).is_ok());
+    assert!(Block::new(ip("::"), 0).is_ok());
+    assert!(Block::new(ip("::1"), 128).is_ok());
+}
+
+#[test]
+fn texts_of_blocks() {
+    for (text, written) in [
+        ("10.0.0.0/8", "10.0.0.0/8"),
+        ("0.0.0.0/0", "0.0.0.0/0"),
+        ("2001:DB8:0:0:0:0:0:0/32", "2001:db8::/32"),
+        ("::ffff:204.152.189.116/128", "::ffff:cc98:bd74/128"),
+    ] {
+        assert_eq!(block(text).to_string(), written);
+        checks_room(written, |out| write_block_into(block(text), out));
+    }
+    assert_eq!(format!("{:>12}", block("10.0.0.0/8")), "  10.0.0.0/8");
+    for (text, refusal) in [
+        ("10.0.0.1/31", BitsBeyondLength),
+        ("10.0.0.0/33", LengthTooLarge),
+        ("::/129", LengthTooLarge),
+        ("10.0.0.0", Malformed),
+        ("10.0.0.0/", Malformed),
+        ("10.0.0.0/08", Malformed),
+        ("10/8", Malformed),
+    ] {
+        assert_eq!(read_block(text), Err(refusal), "{text}");
+        assert_eq!(text.parse::<Block>(), Err(refusal));
+    }
+    checks_text(|text| read_block(text));
+}
+
+#[test]
+fn what_a_block_contains() {
+    for (text, inside, outside) in [
+        (
+            "10.0.0.4/31",
+            ["10.0.0.4", "10.0.0.5"],
+            ["10.0.0.3", "10.0.0.6"],
+        ),
+        (
+            "0.0.0.0/0",
+            ["0.0.0.0", "255.255.255.255"],
+            ["::", "::ffff:0.0.0.0"],
+        ),
+        (
+            "::/0",
+            ["::", "ffff:ffff:ffff:ffff:ffff:ffff:ffff:ffff"],
+            ["0.0.0.0", "255.255.255.255"],
+        ),
+        (
+            "2001:db8::/33",
+            ["2001:db8::", "2001:db8:7fff::1"],
+            ["2001:db7::", "2001:db8:8000::"],
+        ),
+        ("::2/128", ["::2", "::0.0.0.2"], ["::1", "::3"]),
+    ] {
+        assert!(
+            inside
+                .iter()
+                .all(|address| block(text).contains(ip(address))),
+            "{text}"
+        );
+        assert!(
+            !outside
+                .iter()
+                .any(|address| block(text).contains(ip(address))),
+            "{text}"
+        );
+    }
+}
+
+#[test]
+fn ranges() {
+    for (first, last, blocks) in [
+        (
+            "10.0.0.1",
+            "10.0.0.6",
+            &["10.0.0.1/32", "10.0.0.2/31", "10.0.0.4/31", "10.0.0.6/32"][..],
+        ),
+        ("0.0.0.0", "255.255.255.255", &["0.0.0.0/0"]),
+        (
+            "255.255.255.255",
+            "255.255.255.255",
+            &["255.255.255.255/32"],
+        ),
+        ("::", "ffff:ffff:ffff:ffff:ffff:ffff:ffff:ffff", &["::/0"]),
+        (
+            "2001:db8::1",
+            "2001:db8::3",
+            &["2001:db8::1/128", "2001:db8::2/127"],
+        ),
+    ] {
+        let expected: Vec<Block> = blocks.iter().map(|text| block(text)).collect();
+        assert_eq!(range_blocks(ip(first), ip(last)), Ok(expected));
+    }
+    for (first, last, refusal) in [
+        ("10.0.0.6", "10.0.0.1", FirstAboveLast),
+        ("::1", "::", FirstAboveLast),
+        ("10.0.0.1", "::1", WrongFamily),
+        ("::", "10.0.0.1", WrongFamily),
+    ] {
+        assert_eq!(range_blocks(ip(first), ip(last)), Err(refusal));
+        assert_eq!(range_records(ip(first), ip(last), &mut []), Err(refusal));
+    }
+}
+
+#[test]
+fn records_of_ranges() {
+    let (first, last) = (ip("10.0.0.1"), ip("10.0.0.6"));
+    let expected = [
+        10, 0, 0, 1, 32, 10, 0, 0, 2, 31, 10, 0, 0, 4, 31, 10, 0, 0, 6, 32,
+    ];
+
+    let mut out = [b'?'; 24];
+    let records = range_records(first, last, &mut out).unwrap();
+    assert_eq!(records.as_bytes(), expected);
+    assert!(records.blocks().eq(range_blocks(first, last).unwrap()));
+    assert_eq!(records.blocks().next_back(), Some(block("10.0.0.6/32")));
+    assert_eq!(out[20..], [b'?'; 4]);
+
+    let mut out = [b'?'; 19];
+    assert_eq!(range_records(first, last, &mut out), Err(NoRoom));
+    assert_eq!(out, [b'?'; 19]);
+}

@@ -1,0 +1,73 @@
+//! The sizes of `room` always suffice, and the longest answers need all of them.
+
+use std::net::{IpAddr, Ipv4Addr, Ipv6Addr};
+
+use nibharrow::*;
+
+/// Checks that a text fills a buffer of `room` bytes, and has no room in one byte less.
+fn fills(room: usize, text: &str, write: impl Fn(&mut [u8]) -> Result<&str, Refusal>) {
+    assert_eq!(text.len(), room);
+    assert_eq!(write(&mut vec![0; room]), Ok(text));
+    assert_eq!(write(&mut vec![0; room - 1]), Err(Refusal::NoRoom));
+}
+
+const LAST_4: Ipv4Addr = Ipv4Addr::BROADCAST;
+const LAST_6: Ipv6Addr = Ipv6Addr::from_bits(u128::MAX);
+
+#[test]
+fn longest_texts() {
+    let text = "ffff:ffff:ffff:ffff:ffff:ffff:ffff:ffff";
+    fills(room::TEXT, text, |out| {
+        write_address_into(LAST_6.into(), out)
+    });
+
+    let network = "255.255.255.255/32";
+    fills(room::NETWORK_TEXT, network, |out| {
+        write_network_into(LAST_4, 32, out)
+    });
+
+    let block = Block::new(LAST_6.into(), 128).unwrap();
+    fills(room::BLOCK_TEXT, &format!("{text}/128"), |out| {
+        write_block_into(block, out)
+    });
+}
+
+#[test]
+fn longest_words() {
+    let lengths = (1..=9).map(|number| Refusal::from_number(number).unwrap().to_string().len());
+    assert_eq!(lengths.max(), Some(room::REFUSAL_TEXT));
+}
+
+#[test]
+fn longest_bytes() {
+    assert_eq!(read_ipv6("::1").unwrap().octets().len(), room::ADDRESS);
+    assert_eq!(
+        read_network("255.255.255.255").unwrap().octets().len(),
+        room::NETWORK
+    );
+}
+
+/// Checks that a range fills a buffer of `room` bytes with `blocks` records, and has no room in one
+/// byte less.
+fn range_fills(room: usize, blocks: usize, first: IpAddr, last: IpAddr) {
+    let mut out = vec![0; room];
+    let records = range_records(first, last, &mut out).unwrap();
+    assert_eq!(records.as_bytes().len(), room);
+    assert_eq!(records.blocks().len(), blocks);
+    assert_eq!(range_blocks(first, last).unwrap().len(), blocks);
+    assert_eq!(
+        range_records(first, last, &mut vec![0; room - 1]),
+        Err(Refusal::NoRoom)
+    );
+}
+
+#[test]
+fn longest_ranges() {
+    let first_4 = Ipv4Addr::from_bits(1).into();
+    let last_4 = Ipv4Addr::from_bits(u32::MAX - 1).into();
+    range_fills(room::RANGE_4, 62, first_4, last_4);
+
+    let first_6 = Ipv6Addr::from_bits(1).into();
+    let last_6 = Ipv6Addr::from_bits(u128::MAX - 1).into();
+    range_fills(room::RANGE_6, 254, first_6, last_6);
+}
