@@ -1,0 +1,219 @@
+//! The range program, run on generated standard input.
+
+use crate::case::Shown;
+use crate::generate::{any_bytes, damage, number, octets, strict};
+use crate::judge::Judge;
+use crate::random::Random;
+use crate::rules;
+use std::collections::BTreeMap;
+use std::io::{self, Read, Write};
+use std::process::{Command, Stdio};
+use std::thread;
+
+const SMALL_RUNS: u32 = 300;
+const LARGE_RUNS: u32 = 6;
+const LARGE_LINES: usize = 5_000;
+
+/// What a line can come to: blocks (0), or one of these refusals.
+const OUTCOMES: [u32; 5] = [0, 1, 2, 8, 9];
+
+/// Inputs that are worth a run of their own.
+const FIXED: [&str; 12] = [
+    "",
+    "\n",
+    "\n\n",
+    " ",
+    " \n",
+    "10.0.0.1 10.0.0.6",
+    "10.0.0.1 10.0.0.6\n",
+    "10.0.0.1 10.0.0.6\r\n10.0.0.1 10.0.0.6\r",
+    ":: ffff:ffff:ffff:ffff:ffff:ffff:ffff:ffff\n::1 ffff:ffff:ffff:ffff:ffff:ffff:ffff:fffe",
+    "0.0.0.1 255.255.255.254\n0.0.0.0 255.255.255.255\n\n1.1.1.1 ::\n2.2.2.2 1.1.1.1",
+    "\0",
+    "1.2.3.4 1.2.3.4\n\0\n1.2.3.4 1.2.3.4",
+];
+
+/// Runs the program again and again and compares its whole output with that of the rules.
+pub fn compare(judge: &mut Judge, path: &str) -> io::Result<()> {
+    let mut outcomes = BTreeMap::new();
+    let mut lines = 0;
+    let mut inputs: Vec<Vec<u8>> = FIXED
+        .iter()
+        .map(|input| input.as_bytes().to_vec())
+        .collect();
+    inputs.extend([vec![b'1'; 1 << 20], vec![b'\n'; 70_000], vec![b' '; 4096]]);
+    for _ in 0..SMALL_RUNS {
+        let lines = judge.random.below(30);
+        inputs.push(input(&mut judge.random, lines));
+    }
+    inputs.extend((0..LARGE_RUNS).map(|_| input(&mut judge.random, LARGE_LINES)));
+    let runs = inputs.len();
+    for input in inputs {
+        for line in input.split_inclusive(|&byte| byte == b'\n') {
+            lines += 1;
+            *outcomes.entry(outcome(line)).or_default() += 1;
+        }
+        let expected = rules::ranges_program(&input);
+        let (output, ended) = run(&mut judge.random, path, &input)?;
+        if output != expected || !ended {
+            judge.fail(&first_difference(&input, &output, &expected));
+        }
+    }
+    report(judge, &outcomes, runs, lines);
+    Ok(())
+}
+
+fn report(judge: &mut Judge, outcomes: &BTreeMap<u32, u64>, runs: usize, lines: u64) {
+    let count = |outcome| outcomes.get(&outcome).copied().unwrap_or(0);
+    let refused: Vec<String> = OUTCOMES[1..]
+        .iter()
+        .map(|&refusal| format!("{refusal}: {}", count(refusal)))
+        .collect();
+    println!(
+        "range program: {runs} runs, {lines} lines, {} accepted, refused {}",
+        count(0),
+        refused.join(", ")
+    );
+    for outcome in OUTCOMES {
+        judge.expect(count(outcome) > 0, || {
+            format!("no line of the range program with outcome {outcome}")
+        });
+    }
+}
+
+/// 0 or the refusal that a single line comes to.
+fn outcome(line: &[u8]) -> u32 {
+    let output = rules::ranges_program(line);
+    let refusal = output
+        .strip_prefix(b"refused ")
+        .and_then(|number| number.first());
+    refusal.map_or(0, |digit| u32::from(digit - b'0'))
+}
+
+/// The program's whole output, and whether it ended by itself. Its input comes in pieces of random
+/// size.
+fn run(random: &mut Random, path: &str, input: &[u8]) -> io::Result<(Vec<u8>, bool)> {
+    let mut child = Command::new(path)
+        .stdin(Stdio::piped())
+        .stdout(Stdio::piped())
+        .spawn()?;
+    let (mut stdin, mut stdout) = (
+        child.stdin.take().expect("piped"),
+        child.stdout.take().expect("piped"),
+    );
+    let piece = 1 + random.below(if input.len() < 2000 { 100 } else { 20_000 });
+    let mut output = Vec::new();
+    thread::scope(|scope| {
+        // A program that stops reading early is found out by its output.
+        scope.spawn(move || {
+            input
+                .chunks(piece)
+                .try_for_each(|piece| stdin.write_all(piece))
+        });
+        stdout.read_to_end(&mut output)
+    })?;
+    Ok((output, child.wait()?.code().is_some()))
+}
+
+/// The first line of input whose answer is not the expected one.
+fn first_difference(input: &[u8], output: &[u8], expected: &[u8]) -> String {
+    let same = output
+        .iter()
+        .zip(expected)
+        .take_while(|(one, other)| one == other)
+        .count();
+    let mut written = 0;
+    let guilty = input.split_inclusive(|&byte| byte == b'\n').find(|line| {
+        written += rules::ranges_program(line).len();
+        written > same
+    });
+    let around = |text: &[u8]| {
+        let rest = &text[same.saturating_sub(40).min(text.len())..];
+        Shown(&rest[..rest.len().min(120)]).to_string()
+    };
+    let line = guilty.unwrap_or(b"(behind the last line)");
+    let lines = [
+        format!(
+            "range program on {} bytes, at output byte {same}",
+            input.len()
+        ),
+        format!("line {}", Shown(&line[..line.len().min(300)])),
+        format!("program {}", around(output)),
+        format!("rules   {}", around(expected)),
+    ];
+    lines.join("\n  ")
+}
+
+/// Lines of every sort; the last one may lack its newline.
+fn input(random: &mut Random, lines: usize) -> Vec<u8> {
+    let mut input = Vec::new();
+    for _ in 0..lines {
+        input.extend(line(random));
+        let ending: &[u8] = if random.percent(3) { b"\r\n" } else { b"\n" };
+        input.extend(ending);
+    }
+    if random.percent(40) {
+        input.pop();
+    }
+    input
+}
+
+fn line(random: &mut Random) -> Vec<u8> {
+    match random.below(20) {
+        0 => Vec::new(),
+        1 => format!("{}{}", strict(random), " ".repeat(random.below(140))).into_bytes(),
+        2 => filled(random),
+        3 => {
+            let count = random.below(140);
+            any_bytes(random, count)
+        }
+        4..=6 => {
+            let mut line = range(random).into_bytes();
+            damage(random, &mut line);
+            line
+        }
+        7 => {
+            let gap = *random.pick(&["  ", "\t", "", " \t", ", ", "-"]);
+            let (lead, trail) = (*random.pick(&["", " "]), *random.pick(&["", " "]));
+            format!("{lead}{}{gap}{}{trail}", strict(random), strict(random)).into_bytes()
+        }
+        8 | 9 => format!("{} {}", strict(random), strict(random)).into_bytes(),
+        _ => range(random).into_bytes(),
+    }
+}
+
+/// Two addresses of one family in normal text, mostly the lower one first.
+fn range(random: &mut Random) -> String {
+    let width = *random.pick(&[32, 128]);
+    let (one, other) = (number(random, width), number(random, width));
+    let ordered = random.percent(85);
+    let (first, last) = if ordered {
+        (one.min(other), one.max(other))
+    } else {
+        (one, other)
+    };
+    let [first, last] = [first, last].map(|number| {
+        let mut text = [0; 39];
+        let length = rules::write_address(&octets(number, width), &mut text)
+            .expect("an address in ample room");
+        String::from_utf8_lossy(&text[..length]).into_owned()
+    });
+    format!("{first} {last}")
+}
+
+/// A line whose length, or the length of one of its halves, is at the limit.
+fn filled(random: &mut Random) -> Vec<u8> {
+    let (one, other) = (60 + random.below(8), 60 + random.below(8));
+    let fill = *random.pick(&["0", "1", ":", "x"]);
+    let first = if random.percent(30) {
+        strict(random)
+    } else {
+        fill.repeat(one)
+    };
+    let last = if random.percent(30) {
+        strict(random)
+    } else {
+        fill.repeat(other)
+    };
+    format!("{first} {last}").into_bytes()
+}
