@@ -1,0 +1,2 @@
+-- Claims: every row of the table is correct.
+pub mod Claims
