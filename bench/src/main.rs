@@ -1,7 +1,6 @@
 //! The speed of the library against the best peer at hand, both in the same run.
 
 mod inputs;
-mod library;
 mod measure;
 mod peers;
 mod table;
@@ -10,6 +9,7 @@ use std::net::{Ipv4Addr, Ipv6Addr};
 
 use inputs::{between, covered, inputs, most_blocks, texts, Base, Block, Range, Text};
 use measure::{measure, verify, Answer};
+use nibharrow::exact;
 use table::Row;
 
 const USAGE: &str = "usage: bench [--markdown] [--only WORD] [--rounds N]";
@@ -75,7 +75,7 @@ impl Bench {
             ("long", &texts(|r| inputs::ipv4(r, 100, 255).to_string())),
         ] {
             let work = format!("read IPv4, {kind}");
-            let read = |t: &Text, out: &mut [u8]| library::read_address(t.bytes(), 4, out);
+            let read = |t: &Text, out: &mut [u8]| exact::read_address(t.bytes(), 4, out);
             self.row((&work, "std parse", READ_IPV4), texts, read, |t, out| {
                 peers::parse(t, Ipv4Addr::octets, out)
             });
@@ -89,7 +89,7 @@ impl Bench {
             ("mix", &mix6),
         ] {
             let work = format!("read IPv6, {kind}");
-            let read = |t: &Text, out: &mut [u8]| library::read_address(t.bytes(), 6, out);
+            let read = |t: &Text, out: &mut [u8]| exact::read_address(t.bytes(), 6, out);
             self.row((&work, "std parse", READ_IPV6), texts, read, |t, out| {
                 peers::parse(t, Ipv6Addr::octets, out)
             });
@@ -102,7 +102,7 @@ impl Bench {
             self.row(
                 (work, "std parse", target),
                 texts,
-                |t, out| library::read_address(t.bytes(), 0, out),
+                |t, out| exact::read_address(t.bytes(), 0, out),
                 peers::parse_either,
             );
         }
@@ -126,7 +126,7 @@ impl Bench {
     where
         A: From<[u8; N]> + std::fmt::Display,
     {
-        let write = |a: &[u8; N], out: &mut [u8]| library::write_address(a, out);
+        let write = |a: &[u8; N], out: &mut [u8]| exact::write_address(a, out);
         self.row((work, "std write!", WRITE), addresses, write, |a, out| {
             peers::display(A::from(*a), out)
         });
@@ -151,7 +151,7 @@ impl Bench {
             self.row(
                 (&format!("read loose, {kind}"), "inet_aton", C_READERS),
                 &texts,
-                |t, out| library::read_loose(t.bytes(), out),
+                |t, out| exact::read_loose(t.bytes(), out),
                 peers::aton,
             );
         }
@@ -168,7 +168,7 @@ impl Bench {
                 (&format!("read network, {kind}"), "inet_net_pton", C_READERS),
                 &texts,
                 |t, out| {
-                    let read = library::read_network(t.bytes(), out);
+                    let read = exact::read_network(t.bytes(), out);
                     (read.refusal == 0).then_some(read.size)
                 },
                 peers::net_pton,
@@ -177,7 +177,7 @@ impl Bench {
         self.row(
             ("write network", "inet_net_ntop, strlen", None),
             &inputs(inputs::block4),
-            |b, out| library::write_network(&b.octets, b.length, out),
+            |b, out| exact::write_network(&b.octets, b.length, out),
             |b, out| peers::net_ntop(&b.octets, b.length, out),
         );
     }
@@ -194,13 +194,13 @@ impl Bench {
         self.row(
             (&format!("read block, {family}"), "like Rust", None),
             &texts,
-            |t, out| library::read_block(t.bytes(), out),
+            |t, out| exact::read_block(t.bytes(), out),
             |t, out| peers::read_block(t.str(), out),
         );
         self.row(
             (&format!("write block, {family}"), "like Rust", None),
             blocks,
-            |b, out| library::write_block(&b.octets, b.length, out),
+            |b, out| exact::write_block(&b.octets, b.length, out),
             |b, out| peers::write_block(&b.octets, b.length, out),
         );
     }
@@ -232,7 +232,7 @@ impl Bench {
             let ranges = &ranges[..1024];
             let work = format!("range {family}, {kind}");
             let blocks = |r: &Range<N>, out: &mut [u8]| {
-                library::range_blocks(&r.first, &r.last, &mut out[..r.room])
+                exact::range_blocks(&r.first, &r.last, &mut out[..r.room])
             };
             self.row((&work, "like Rust", RANGE), ranges, blocks, |r, out| {
                 peers::range_blocks::<false>(&r.first, &r.last, &mut out[..r.room])
@@ -248,14 +248,14 @@ impl Bench {
         self.row(
             ("split", "like Rust", None),
             &addresses,
-            |a, _| library::split(a),
+            |a, _| exact::split(a),
             |a, _| peers::split(a),
         );
         let pairs: Vec<_> = addresses.iter().map(|a| peers::split(a)).collect();
         self.row(
             ("join", "like Rust", None),
             &pairs,
-            |p, out| library::join(p.network, p.host, out),
+            |p, out| exact::join(p.network, p.host, out),
             |p, out| peers::join(p.network, p.host, out),
         );
     }

@@ -1,7 +1,8 @@
 //! One call with its inputs, put to the library or to the second implementation, and its answer in
 //! common terms.
 
-use crate::{calls, rules};
+use crate::rules;
+use nibharrow::exact;
 use nibharrow::raw::{BlockRead, NetworkHost, NetworkRead, RangeWritten, Written};
 use std::fmt;
 
@@ -131,21 +132,21 @@ impl Case {
     /// What the library answers.
     pub fn library(&self, out: &mut [u8]) -> Answer {
         match self {
-            Case::ReadAddress { text, family } => calls::read_address(text, *family, out).into(),
-            Case::WriteAddress { address } => calls::write_address(address, out).into(),
-            Case::ReadLoose { text } => calls::read_loose(text, out).into(),
-            Case::ReadNetwork { text } => calls::read_network(text, out).into(),
+            Case::ReadAddress { text, family } => exact::read_address(text, *family, out).into(),
+            Case::WriteAddress { address } => exact::write_address(address, out).into(),
+            Case::ReadLoose { text } => exact::read_loose(text, out).into(),
+            Case::ReadNetwork { text } => exact::read_network(text, out).into(),
             Case::WriteNetwork { address, size } => {
-                calls::write_network(address, *size, out).into()
+                exact::write_network(address, *size, out).into()
             }
-            Case::Split { address } => calls::split(address).into(),
-            Case::Join { network, host } => calls::join(*network, *host, out).into(),
-            Case::ReadBlock { text } => calls::read_block(text, out).into(),
+            Case::Split { address } => exact::split(address).into(),
+            Case::Join { network, host } => exact::join(*network, *host, out).into(),
+            Case::ReadBlock { text } => exact::read_block(text, out).into(),
             Case::WriteBlock { address, length } => {
-                calls::write_block(address, *length, out).into()
+                exact::write_block(address, *length, out).into()
             }
-            Case::RangeBlocks { first, last } => calls::range_blocks(first, last, out).into(),
-            Case::RefusalText { number } => calls::refusal_text(*number, out).into(),
+            Case::RangeBlocks { first, last } => exact::range_blocks(first, last, out).into(),
+            Case::RefusalText { number } => exact::refusal_text(*number, out).into(),
         }
     }
 
@@ -192,7 +193,7 @@ fn refusal_text(number: u32, out: &mut [u8]) -> Result<usize, u32> {
         return Err(rules::MALFORMED);
     }
     let mut words = [0; REFUSAL_TEXT_ROOM];
-    let length = calls::refusal_text(number, &mut words).bytes;
+    let length = exact::refusal_text(number, &mut words).bytes;
     let free = out.get_mut(..length).ok_or(rules::NO_ROOM)?;
     free.copy_from_slice(&words[..length]);
     Ok(length)

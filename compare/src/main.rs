@@ -5,7 +5,6 @@
 //! sweeps always run, and random calls follow until there are `count` comparisons; the range
 //! program at the path is compared as well.
 
-mod calls;
 mod case;
 mod clib;
 mod generate;

@@ -2,7 +2,8 @@ use std::net::{IpAddr, Ipv4Addr, Ipv6Addr};
 
 use crate::lend::{address_of, granted, lend, text_in, with_octets};
 use crate::raw::Written;
-use crate::{call, room, Refusal};
+use crate::refusal::checked;
+use crate::{exact, room, Refusal};
 
 /// Which addresses [`read_address_of`] takes.
 #[derive(Clone, Copy, Debug, Default, PartialEq, Eq, Hash)]
@@ -66,7 +67,7 @@ fn read_octets<const ROOM: usize>(
     family: Family,
     text: &[u8],
 ) -> Result<([u8; ROOM], Written), Refusal> {
-    lend(|out| call::read_address(text, family as u32, out))
+    lend(|out| checked(exact::read_address(text, family as u32, out)))
 }
 
 /// Writes the normal text of an address: dotted decimal, or RFC 5952 section 4.
@@ -103,6 +104,6 @@ pub fn write_address(address: IpAddr) -> String {
 /// ```
 pub fn write_address_into(address: IpAddr, out: &mut [u8]) -> Result<&str, Refusal> {
     text_in(out, |out| {
-        with_octets(address, |octets| call::write_address(octets, out))
+        with_octets(address, |octets| checked(exact::write_address(octets, out)))
     })
 }

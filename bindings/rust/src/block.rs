@@ -3,7 +3,8 @@ use std::net::IpAddr;
 use std::str::FromStr;
 
 use crate::lend::{address_of, granted, lend, text_in, with_octets};
-use crate::{call, room, Refusal};
+use crate::refusal::checked;
+use crate::{exact, room, Refusal};
 
 /// A block: an address and a prefix length, where the address has no one bit beyond the length.
 ///
@@ -114,7 +115,8 @@ impl FromStr for Block {
 /// Refusals: [`TextTooLong`](Refusal::TextTooLong), [`Malformed`](Refusal::Malformed),
 /// [`LengthTooLarge`](Refusal::LengthTooLarge), [`BitsBeyondLength`](Refusal::BitsBeyondLength).
 pub fn read_block(text: impl AsRef<[u8]>) -> Result<Block, Refusal> {
-    let (octets, read) = lend::<{ room::ADDRESS }, _>(|out| call::read_block(text.as_ref(), out))?;
+    let (octets, read) =
+        lend::<{ room::ADDRESS }, _>(|out| checked(exact::read_block(text.as_ref(), out)))?;
     // A length above 128 is refused, so no bit is lost.
     Ok(Block::answered(&octets[..read.bytes], read.length as u8))
 }
@@ -126,7 +128,7 @@ pub fn read_block(text: impl AsRef<[u8]>) -> Result<Block, Refusal> {
 pub fn write_block_into(block: Block, out: &mut [u8]) -> Result<&str, Refusal> {
     text_in(out, |out| {
         with_octets(block.address, |octets| {
-            call::write_block(octets, block.length.into(), out)
+            checked(exact::write_block(octets, block.length.into(), out))
         })
     })
 }

@@ -1,7 +1,8 @@
 use std::net::Ipv4Addr;
 
 use crate::lend::lend;
-use crate::{call, Refusal};
+use crate::refusal::checked;
+use crate::{exact, Refusal};
 
 /// Splits an address of class A, B or C into its network number, in which the class bits stay, and
 /// its host number.
@@ -18,7 +19,7 @@ use crate::{call, Refusal};
 /// # Ok::<(), Refusal>(())
 /// ```
 pub fn split(address: Ipv4Addr) -> Result<(u32, u32), Refusal> {
-    let answer = call::split(&address.octets())?;
+    let answer = checked(exact::split(&address.octets()))?;
     Ok((answer.network, answer.host))
 }
 
@@ -26,6 +27,6 @@ pub fn split(address: Ipv4Addr) -> Result<(u32, u32), Refusal> {
 ///
 /// Refusals: [`NoClass`](Refusal::NoClass), [`HostTooLarge`](Refusal::HostTooLarge).
 pub fn join(network: u32, host: u32) -> Result<Ipv4Addr, Refusal> {
-    let (octets, _) = lend::<4, _>(|out| call::join(network, host, out))?;
+    let (octets, _) = lend::<4, _>(|out| checked(exact::join(network, host, out)))?;
     Ok(octets.into())
 }

@@ -34,7 +34,8 @@
 //!
 //! A call whose name ends in `_into`, and [`range_records`], writes to a buffer of the caller's and
 //! allocates nothing. A good answer changes only the bytes it counts, at the start of the buffer; a
-//! refused call changes none. [`room`] has the sizes that always suffice.
+//! refused call changes none. [`room`] has the sizes that always suffice. [`exact`] has the calls of
+//! the C interface on slices, with every field of their answers.
 //!
 //! Where several refusals hold, the first of `WrongFamily`, `TextTooLong`, `Malformed`,
 //! `LengthTooLarge`, `BitsBeyondLength`, `NoClass`, `HostTooLarge`, `FirstAboveLast`, `NoRoom` is
@@ -63,8 +64,8 @@
 
 mod address;
 mod block;
-mod call;
 mod classes;
+pub mod exact;
 mod lend;
 mod loose;
 mod network;

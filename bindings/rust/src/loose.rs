@@ -1,7 +1,8 @@
 use std::net::Ipv4Addr;
 
 use crate::lend::lend;
-use crate::{call, Refusal};
+use crate::refusal::checked;
+use crate::{exact, Refusal};
 
 /// Reads the loose IPv4 form, as `inet_aton` does: one to four parts in hexadecimal (`0x7f`), octal
 /// (`0177`) or decimal, of which the last fills the bytes that are left.
@@ -18,6 +19,6 @@ use crate::{call, Refusal};
 /// # Ok::<(), Refusal>(())
 /// ```
 pub fn read_loose(text: impl AsRef<[u8]>) -> Result<Ipv4Addr, Refusal> {
-    let (octets, _) = lend::<4, _>(|out| call::read_loose(text.as_ref(), out))?;
+    let (octets, _) = lend::<4, _>(|out| checked(exact::read_loose(text.as_ref(), out)))?;
     Ok(octets.into())
 }

@@ -1,7 +1,8 @@
 use std::net::Ipv4Addr;
 
 use crate::lend::{lend, text_in};
-use crate::{call, room, Refusal};
+use crate::refusal::checked;
+use crate::{exact, room, Refusal};
 
 /// A network of IPv4 as [`read_network`] reads it: a size in bits, and one to four bytes.
 #[derive(Clone, Copy, Debug, PartialEq, Eq, Hash)]
@@ -49,7 +50,7 @@ impl Network {
 /// # Ok::<(), Refusal>(())
 /// ```
 pub fn read_network(text: impl AsRef<[u8]>) -> Result<Network, Refusal> {
-    let (octets, read) = lend(|out| call::read_network(text.as_ref(), out))?;
+    let (octets, read) = lend(|out| checked(exact::read_network(text.as_ref(), out)))?;
     Ok(Network {
         // A size above 32 is refused, so no bit is lost.
         size: read.size as u8,
@@ -82,6 +83,6 @@ pub fn write_network(address: Ipv4Addr, size: u8) -> Result<String, Refusal> {
 /// for a buffer of [`room::NETWORK_TEXT`] bytes.
 pub fn write_network_into(address: Ipv4Addr, size: u8, out: &mut [u8]) -> Result<&str, Refusal> {
     text_in(out, |out| {
-        call::write_network(&address.octets(), size.into(), out)
+        checked(exact::write_network(&address.octets(), size.into(), out))
     })
 }

@@ -1,7 +1,8 @@
 use std::net::IpAddr;
 
 use crate::lend::with_octets;
-use crate::{call, room, Block, Refusal};
+use crate::refusal::checked;
+use crate::{exact, room, Block, Refusal};
 
 /// The blocks of a range as the library writes them: records of 4 or 16 bytes of the address and
 /// one byte with the prefix length, in rising order, end to end.
@@ -67,7 +68,7 @@ pub fn range_blocks(first: IpAddr, last: IpAddr) -> Result<Vec<Block>, Refusal> 
 /// ```
 pub fn range_records(first: IpAddr, last: IpAddr, out: &mut [u8]) -> Result<Records<'_>, Refusal> {
     let written = with_octets(first, |first| {
-        with_octets(last, |last| call::range_blocks(first, last, out))
+        with_octets(last, |last| checked(exact::range_blocks(first, last, out)))
     })?;
     Ok(Records {
         bytes: &out[..written.bytes],

@@ -1,7 +1,8 @@
 use std::fmt;
 
 use crate::lend::{granted, text_in};
-use crate::{call, room};
+use crate::raw::{BlockRead, NetworkHost, NetworkRead, RangeWritten, Written};
+use crate::{exact, room};
 
 /// Why a call says no.
 ///
@@ -67,7 +68,9 @@ impl Refusal {
 impl fmt::Display for Refusal {
     fn fmt(&self, f: &mut fmt::Formatter<'_>) -> fmt::Result {
         let mut out = [0; room::REFUSAL_TEXT];
-        let text = text_in(&mut out, |out| call::refusal_text(self.number(), out));
+        let text = text_in(&mut out, |out| {
+            checked(exact::refusal_text(self.number(), out))
+        });
         f.pad(granted(
             text,
             "each of the nine has a text of at most 54 bytes",
@@ -76,3 +79,30 @@ impl fmt::Display for Refusal {
 }
 
 impl std::error::Error for Refusal {}
+
+/// An answer of the C interface, which begins with the number of its refusal.
+pub(crate) trait Answer {
+    /// The number, 0 for none.
+    fn refusal(&self) -> u32;
+}
+
+macro_rules! answers {
+    ($($answer:ident)*) => {$(
+        impl Answer for $answer {
+            fn refusal(&self) -> u32 {
+                self.refusal
+            }
+        }
+    )*};
+}
+
+answers! { Written NetworkRead NetworkHost BlockRead RangeWritten }
+
+/// The answer, or its refusal.
+pub(crate) fn checked<A: Answer>(answer: A) -> Result<A, Refusal> {
+    match answer.refusal() {
+        0 => Ok(answer),
+        // The header promises one of its nine numbers.
+        number => Err(Refusal::from_number(number).unwrap_or_else(|| unreachable!("{number}"))),
+    }
+}

@@ -1,36 +1,35 @@
-//! The calls of the library with slices in place of pointers and lengths. All unsafe code of the
-//! crate is here.
+//! The calls of the C interface with slices in place of pointers and lengths. Each gives the answer
+//! of the library as it is: the refusal's number first, 0 for none, and every other field.
+//!
+//! All unsafe code of the crate is here.
 
 #![allow(unsafe_code)]
 
 use crate::raw::{self, BlockRead, NetworkHost, NetworkRead, RangeWritten, Written};
-use crate::refusal::Refusal;
 
-/// Defines a function for each row, with a refusal as its error. A row names the slices to be read,
-/// the numbers, and the buffer to be written, in this order, which every function of the header has.
+/// Defines a function for each row. A row names the slices to be read, the numbers, and the buffer
+/// to be written, in this order, which every function of the header has.
 macro_rules! calls {
     ($(
         $name:ident = $raw:ident($($lent:ident)*; $($number:ident)*; $($out:ident)?) -> $answer:ident;
     )*) => {$(
-        pub(crate) fn $name(
+        #[doc = concat!("`", stringify!($raw), "`, which the header in [`raw`] documents.")]
+        #[inline]
+        pub fn $name(
             $($lent: &[u8],)*
             $($number: u32,)*
             $($out: &mut [u8],)?
-        ) -> Result<$answer, Refusal> {
+        ) -> $answer {
             // SAFETY: the header asks that a pointer and its length name bytes that may be read, or
             // written where the pointer is not to const, and that a written buffer overlaps nothing
             // else lent. `&[u8]` and `&mut [u8]` say both. That `raw` declares the functions as the
             // header does is tested.
-            let answer = unsafe {
+            unsafe {
                 raw::$raw(
                     $($lent.as_ptr(), $lent.len(),)*
                     $($number,)*
                     $($out.as_mut_ptr(), $out.len(),)?
                 )
-            };
-            match answer.refusal {
-                0 => Ok(answer),
-                number => Err(refusal(number)),
             }
         }
     )*};
@@ -48,10 +47,4 @@ calls! {
     write_block = nibharrow_write_block(address; length; out) -> Written;
     range_blocks = nibharrow_range_blocks(first last; ; out) -> RangeWritten;
     refusal_text = nibharrow_refusal_text(; number; out) -> Written;
-}
-
-/// The refusal of an answer that is not good.
-fn refusal(number: u32) -> Refusal {
-    // The header promises one of its nine numbers.
-    Refusal::from_number(number).unwrap_or_else(|| unreachable!("refusal {number}"))
 }
