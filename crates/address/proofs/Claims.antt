@@ -19,7 +19,7 @@ use Rattle.address.specs.declared.Refusal.the-variants.{TextTooLong, Mal
 use Rattle.address.specs.declared.Reading.{Reading}
 use Rattle.address.specs.declared.Writing.{Writing}
 use Rattle.address.specs.declared.BlockReading.{BlockReading}
-use Rattle.address.specs.Answers.{Answer, refusalNumber, precedence, holds, firstOf, refusal, gives, refuses, readingAnswer, writingAnswer, blockAnswer}
+use Rattle.address.specs.Answers.{Answer, refusalNumber, precedence, holds, firstOf, refusal, gives, refuses, noAddress, noBlock, readingAnswer, writingAnswer, blockAnswer}
 use Rattle.address.specs.Addresses.{IsAddress, width, number, sameAddress}
 use Rattle.address.specs.Blocks.{numbered, blockRefusal}
 use Rattle.address.specs.declared.Reading.the-variants as reading
@@ -83,33 +83,50 @@ refusal-first reasons = go precedence
 
 -- ---- a promise about the paper's answer fixes the code's answer
 
+-- the two cases of an enum that answers a value or a refusal
+pub data Cases {A R : Type 0} (value : A → R) (refused : Refusal → R) : R → Type 0 where
+  given : (a : A) → Cases value refused (value a)
+  not-given : (e : Refusal) → Cases value refused (refused e)
+
 module _ {A : Type 0} where
   pub gives-one : {a b : A} → gives a ≡ gives b → a ≡ b
   gives-one h = ap (λ (r : Answer A). r .fields) h
 
-  gives-refuses : {a none : A} (e : Refusal) → gives a ≡ refuses none e → ⊥
+  gives-refuses : {a zeros : A} (e : Refusal) → gives a ≡ refuses zeros e → ⊥
   gives-refuses e h = omega (arith, number-above-0 e, ap (λ (r : Answer A). r .number) h)
 
-  refuses-one : {none : A} (e f : Refusal) → refuses none e ≡ refuses none f → e ≡ f
+  refuses-one : {zeros : A} (e f : Refusal) → refuses zeros e ≡ refuses zeros f → e ≡ f
   refuses-one e f h = one-number e f (ap (λ (r : Answer A). r .number) h)
 
+  module _ {R : Type 0} (value : A → R) (refused : Refusal → R) (zeros : A) (says : R → Answer A)
+      (value-says : (a : A) → says (value a) ≡ gives a) (refused-says : (e : Refusal) → says (refused e) ≡ refuses zeros e) where
+    -- Two answers of the code that say the same are the same.
+    pub one-answer : (r s : R) → Cases value refused r → Cases value refused s → says r ≡ says s → r ≡ s
+    one-answer _ _ (given a) (given b) h = ap value (gives-one (sym (value-says a) ∙ h ∙ value-says b))
+    one-answer _ _ (given a) (not-given f) h = absurd (gives-refuses f (sym (value-says a) ∙ h ∙ refused-says f))
+    one-answer _ _ (not-given e) (given b) h = absurd (gives-refuses e (sym (value-says b) ∙ sym h ∙ refused-says e))
+    one-answer _ _ (not-given e) (not-given f) h = ap refused (refuses-one e f (sym (refused-says e) ∙ h ∙ refused-says f))
+
 pub one-reading : (r s : Reading) → readingAnswer r ≡ readingAnswer s → r ≡ s
-one-reading (reading.Read a) (reading.Read b) h = ap reading.Read (gives-one h)
-one-reading (reading.Read a) (reading.Refused f) h = absurd (gives-refuses f h)
-one-reading (reading.Refused e) (reading.Read b) h = absurd (gives-refuses e (sym h))
-one-reading (reading.Refused e) (reading.Refused f) h = ap reading.Refused (refuses-one e f h)
+one-reading r s = one-answer reading.Read reading.Refused noAddress readingAnswer (λ a. refl) (λ e. refl) r s (cases r) (cases s)
+  where
+    cases : (x : Reading) → Cases reading.Read reading.Refused x
+    cases (reading.Read a) = given a
+    cases (reading.Refused e) = not-given e
 
 pub one-writing : (r s : Writing) → writingAnswer r ≡ writingAnswer s → r ≡ s
-one-writing (writing.Wrote m) (writing.Wrote n) h = ap writing.Wrote (gives-one h)
-one-writing (writing.Wrote m) (writing.Refused f) h = absurd (gives-refuses f h)
-one-writing (writing.Refused e) (writing.Wrote n) h = absurd (gives-refuses e (sym h))
-one-writing (writing.Refused e) (writing.Refused f) h = ap writing.Refused (refuses-one e f h)
+one-writing r s = one-answer writing.Wrote writing.Refused 0 writingAnswer (λ n. refl) (λ e. refl) r s (cases r) (cases s)
+  where
+    cases : (x : Writing) → Cases writing.Wrote writing.Refused x
+    cases (writing.Wrote n) = given n
+    cases (writing.Refused e) = not-given e
 
 pub one-block-reading : (r s : BlockReading) → blockAnswer r ≡ blockAnswer s → r ≡ s
-one-block-reading (block.Read a) (block.Read b) h = ap block.Read (gives-one h)
-one-block-reading (block.Read a) (block.Refused f) h = absurd (gives-refuses f h)
-one-block-reading (block.Refused e) (block.Read b) h = absurd (gives-refuses e (sym h))
-one-block-reading (block.Refused e) (block.Refused f) h = ap block.Refused (refuses-one e f h)
+one-block-reading r s = one-answer block.Read block.Refused noBlock blockAnswer (λ b. refl) (λ e. refl) r s (cases r) (cases s)
+  where
+    cases : (x : BlockReading) → Cases block.Read block.Refused x
+    cases (block.Read b) = given b
+    cases (block.Refused e) = not-given e
 
 -- ---- equality
 

@@ -9,9 +9,12 @@ use Rattle.address.specs.declared.Address.the-variants.{V4, V6}
 use Rattle.address.specs.declared.Refusal.the-variants.{NoClass}
 use Rattle.address.specs.Addresses.{IsAddress}
 use Rattle.address.specs.Answers.{gives, refuses}
-use Rattle.classes.specs.Classes.{Class, classA, classB, classC, classOf, networkClass, hosts, splitAnswer, joinAnswer}
+use Rattle.classes.specs.Classes.{Class, classA, classB, classC, classOf, networkClass, hosts, splitAnswer, splittingAnswer, joinAnswer}
 use Rattle.classes.proofs.ClassLaws.{class-a, class-b, class-c, class-none, split-class, split-none}
 use Rattle.classes.proofs.JoinLaws as laws
+use Rattle.address.proofs.Claims.{Cases, given, not-given, one-answer}
+use Rattle.classes.specs.declared.Splitting.{Splitting}
+use Rattle.classes.specs.declared.Splitting.the-variants.{NetworkHost, Refused}
 
 -- ---- there and back
 
@@ -60,3 +63,14 @@ Agrees c = (n : ℕ) → let low = 2 ^ (32 - c .bits) / hosts c in ((c .least �
 
 pub columns-agree : Agrees classA × Agrees classB × Agrees classC
 columns-agree = (λ n. (λ h. omega arith, λ h. (omega arith, omega arith)), λ n. (λ h. omega arith, λ h. (omega arith, omega arith)), λ n. (λ h. omega arith, λ h. (omega arith, omega arith)))
+
+-- A promise about the paper's answer fixes the code's answer.
+pub one-splitting : (r s : Splitting) → splittingAnswer r ≡ splittingAnswer s → r ≡ s
+one-splitting r s = one-answer value Refused (0, 0) splittingAnswer (λ p. refl) (λ e. refl) r s (cases r) (cases s)
+  where
+    value : ℕ × ℕ → Splitting
+    value p = NetworkHost (p .0) (p .1)
+
+    cases : (x : Splitting) → Cases value Refused x
+    cases (NetworkHost m n) = given (m, n)
+    cases (Refused e) = not-given e

@@ -10,9 +10,12 @@ use lib.Pow.{pow-pos}
 use Rattle.address.specs.Answers.{gives}
 use Rattle.octets.specs.BigEndian.{digitsOf}
 use Rattle.digits.specs.Numerals.{numeral}
-use Rattle.network.specs.Network.{Network, sizeBytes, zeroFilled, networkOf, networkAnswer, networkLeaves, cleared, networkText}
+use Rattle.network.specs.Network.{Network, sizeBytes, zeroFilled, networkOf, networkAnswer, networkLeaves, networkReadingAnswer, cleared, networkText}
 use Rattle.network.proofs.TextLaws.{cleared-high, text-most}
 use Rattle.network.proofs.ReadBackLaws.{written, written-read, written-filled, written-answer}
+use Rattle.address.proofs.Claims.{Cases, given, not-given, one-answer}
+use Rattle.network.specs.declared.NetworkReading.{NetworkReading}
+use Rattle.network.specs.declared.NetworkReading.the-variants.{Read, Refused}
 
 -- ---- what is written
 
@@ -45,3 +48,14 @@ pub read-back-answer : (v size : ℕ) (old : List ℕ) → size ≤ 32 → max 1
     → (networkAnswer (networkText v size) old ≡ gives (size, max 1 (sizeBytes size)))
     × (networkLeaves (networkText v size) old ≡ take (max 1 (sizeBytes size)) (digitsOf 256 4 (cleared 32 size v)) ++ drop (max 1 (sizeBytes size)) old)
 read-back-answer = written-answer
+
+-- A promise about the paper's answer fixes the code's answer.
+pub one-network-reading : (r s : NetworkReading) → networkReadingAnswer r ≡ networkReadingAnswer s → r ≡ s
+one-network-reading r s = one-answer value Refused (0, 0) networkReadingAnswer (λ p. refl) (λ e. refl) r s (cases r) (cases s)
+  where
+    value : ℕ × ℕ → NetworkReading
+    value p = Read (p .0) (p .1)
+
+    cases : (x : NetworkReading) → Cases value Refused x
+    cases (Read m n) = given (m, n)
+    cases (Refused e) = not-given e
