@@ -69,23 +69,34 @@ fn four(bytes: &[u8], at: usize) -> u32
     join(bytes[at], bytes[at + 1], bytes[at + 2], bytes[at + 3])
 }
 
+// Two numbers of four bytes as one of eight.
+fn pair(hi: u32, lo: u32) -> u64
+    ensures { λ r. ⌜ r ≡ hi * 4294967296 + lo ⌝ }
+{
+    (hi as u64) * 4294967296 + (lo as u64)
+}
+
 // The number of the eight bytes from `at` on.
 fn eight(bytes: &[u8], at: usize) -> u64
     requires { ⌜ at + 8 ≤ length (now bytes) ⌝ }
     ensures { λ r. ⌜ r ≡ numberOf 256 (take 8 (drop at (now (bytes .entry)))) ⌝ }
 {
-    (four(bytes, at) as u64) * 4294967296 + (four(bytes, at + 4) as u64)
+    pair(four(bytes, at), four(bytes, at + 4))
 }
 
-// The address that four or sixteen bytes are.
+// The address that four or sixteen bytes are. Both begin with four bytes, which are read in one place: so the function stays
+// small enough that the compiler puts it into its callers.
 pub fn read_octets(bytes: &[u8]) -> Reading
     ensures { λ r. ⌜ readingAnswer r ≡ octetsAnswer (now (bytes .entry)) ⌝ }
 {
-    if bytes.len() == 4 {
-        return Reading::Read(Address::V4(four(bytes, 0)));
-    }
-    if bytes.len() == 16 {
-        return Reading::Read(Address::V6(eight(bytes, 0), eight(bytes, 8)));
+    if 4 <= bytes.len() {
+        let first = four(bytes, 0);
+        if bytes.len() == 4 {
+            return Reading::Read(Address::V4(first));
+        }
+        if bytes.len() == 16 {
+            return Reading::Read(Address::V6(pair(first, four(bytes, 4)), eight(bytes, 8)));
+        }
     }
     Reading::Refused(Refusal::Malformed)
 }
