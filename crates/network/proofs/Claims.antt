@@ -10,7 +10,8 @@ use lib.Pow.{pow-pos}
 use Rattle.address.specs.Answers.{gives}
 use Rattle.octets.specs.BigEndian.{digitsOf}
 use Rattle.digits.specs.Numerals.{numeral}
-use Rattle.network.specs.Network.{Network, sizeBytes, zeroFilled, networkOf, networkAnswer, networkLeaves, networkReadingAnswer, cleared, networkText}
+use Rattle.given.specs.GivenBytes.{zeroFilled}
+use Rattle.network.specs.Network.{Network, sizeBytes, networkOf, networkAnswer, networkLeaves, networkReadingAnswer, cleared, networkText}
 use Rattle.network.proofs.TextLaws.{cleared-high, text-most}
 use Rattle.network.proofs.ReadBackLaws.{written, written-read, written-filled, written-answer}
 use Rattle.address.proofs.Claims.{Cases, given, not-given, one-answer}

@@ -1,6 +1,5 @@
--- GivenLaws: the bytes that a text gives. NetworkLaws: zeros behind them, the size, and what reading answers. TextLaws: the text as the code
+-- NetworkLaws: zeros behind the bytes given, the size, and what reading answers. TextLaws: the text as the code
 -- puts it, and what writing answers. ReadBackLaws: reading what was written. Claims: what 01 asks for.
-pub mod GivenLaws
 pub mod NetworkLaws
 pub mod TextLaws
 pub mod ReadBackLaws

@@ -27,10 +27,11 @@ use Rattle.digits.specs.Pieces.{indexOf}
 use Rattle.digits.proofs.PieceLaws.{index-contains, index-lacks, as-number, as-nothing}
 use Rattle.digits.proofs.SliceLaws.{tail, to-end}
 use Rattle.dotted.proofs.DottedLaws.{Octets}
-use Rattle.network.specs.declared.given.Given.the-variants.{Bytes, NotGiven}
-use Rattle.network.specs.Inner.{asGiven}
-use Rattle.network.specs.Network.{Network, givenOf, classSize, widened, inferredSize, sizeBytes, zeroFilled, completed, sized, networkOf, networkAnswer, networkLeaves}
-use Rattle.network.proofs.GivenLaws.{given-octets, bytes-says, not-given-says}
+use Rattle.given.specs.declared.Given.the-variants.{Bytes, NotGiven}
+use Rattle.given.specs.GivenBytes.{asGiven}
+use Rattle.given.specs.GivenBytes.{givenOf, zeroFilled}
+use Rattle.network.specs.Network.{Network, classSize, widened, inferredSize, sizeBytes, completed, sized, networkOf, networkAnswer, networkLeaves}
+use Rattle.given.proofs.GivenLaws.{given-octets, bytes-says, not-given-says}
 
 -- ---- zeros behind bytes
 

@@ -21,7 +21,8 @@ use Rattle.digits.proofs.MarkLaws.{not-marked}
 use Rattle.digits.proofs.SeparatedLaws.{Lacks, seam, numerals-lack}
 use Rattle.dotted.proofs.DottedLaws.{parts-spelling}
 use Rattle.dotted.proofs.EveryLaws.{every-decimal}
-use Rattle.network.specs.Network.{Network, givenOf, sizeBytes, completed, zeroFilled, networkOf, networkAnswer, networkLeaves, cleared, networkText}
+use Rattle.given.specs.GivenBytes.{givenOf, zeroFilled}
+use Rattle.network.specs.Network.{Network, sizeBytes, completed, networkOf, networkAnswer, networkLeaves, cleared, networkText}
 use Rattle.network.proofs.NetworkLaws.{answer-stored}
 use Rattle.network.proofs.TextLaws.{cleared-high, text-most}
 

@@ -1,3 +1,2 @@
--- Network: the network form, read and written. Inner: what the private functions answer.
+-- Network: the network form, read and written.
 pub mod Network
-pub mod Inner

@@ -2,36 +2,18 @@
 use mathlib.Core.Bool.{Bool, cond, _&&_}
 use mathlib.Core.List.{List, [], _∷_, _++_, map}
 use mathlib.Core.Option.{Option, some, none, Option·map, Option·getD}
-use Prim.Native.Nat.{ℕ, zero, suc, _+_, _-_, _*_, _/_, _%_, _^_, max}
+use Prim.Native.Nat.{ℕ, suc, _+_, _-_, _*_, _/_, _%_, _^_, max}
 use lib.Dec.{leb, ltb, eqb}
-use lib.ListN.{length, take, drop, getD, replicate}
+use lib.ListN.{length, take, drop, getD}
 use Rattle.address.specs.declared.Address.{Address}
-use Rattle.address.specs.Addresses.{family, number}
+use Rattle.address.specs.Addresses.{family}
 use Rattle.address.specs.Answers.{Answer, answer, gives, refuses, missing, refusal, writeRefusal, writeLeaves}
 use Rattle.octets.specs.BigEndian.{digitsOf}
-use Rattle.digits.specs.Numerals.{within, digitOf, allDigits, hexMarked, partOf, decimal}
+use Rattle.digits.specs.Numerals.{partOf, decimal}
 use Rattle.digits.specs.Pieces.{contains, indexOf, separated}
-use Rattle.dotted.specs.Dotted.{partsOf}
+use Rattle.given.specs.GivenBytes.{givenOf, zeroFilled}
 use Rattle.network.specs.declared.NetworkReading.{NetworkReading}
 use Rattle.network.specs.declared.NetworkReading.the-variants.{Read, Refused}
-
--- ---- the bytes given
-
--- "Hex digits fill half bytes from the left. An odd last digit fills the upper half of its byte, the lower half is zero"
-unfoldable pub halfBytes : List ℕ → List ℕ
-halfBytes [] = []
-halfBytes (d ∷ []) = (d * 16) ∷ []
-halfBytes (d ∷ e ∷ ds) = (d * 16 + e) ∷ halfBytes ds
-
--- "one to eight hex digits"
-unfoldable pub hexBytes : List ℕ → Option (List ℕ)
-unfolding halfBytes allDigits digitOf
-hexBytes t = cond (within 1 8 (length t) && allDigits 16 t) (some (halfBytes (map digitOf t))) none
-
--- "Either `0x`/`0X` and one to eight hex digits, or one to four strict decimal parts"
-unfoldable pub givenOf : List ℕ → Option (List ℕ)
-unfolding hexBytes hexMarked partsOf
-givenOf t = cond (hexMarked t) (hexBytes (drop 2 t)) (partsOf t)
 
 -- ---- the size
 
@@ -57,10 +39,6 @@ sizeBytes size = (size + 7) / 8
 pub record Network : Type 0 where
   pub size : ℕ
   pub bytes : List ℕ
-
--- bytes with zeros behind them, n in all
-unfoldable pub zeroFilled : ℕ → List ℕ → List ℕ
-zeroFilled n bs = bs ++ replicate (n - length bs) 0
 
 -- "The bytes written are the larger of the bytes given and the size divided by eight, rounded up. Missing ones are zero."
 unfoldable pub completed : ℕ → List ℕ → Network

@@ -23,8 +23,6 @@ use output::put;
 use output::put_decimal;
 use output::store;
 
-mod given;
-
 // What the reader answers: the size in bits, and how many bytes are at the start of the lent buffer.
 pub enum NetworkReading {
     Read(u8, usize),

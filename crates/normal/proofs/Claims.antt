@@ -14,7 +14,8 @@ use Rattle.address.specs.Answers.{gives}
 use Rattle.octets.specs.BigEndian.{AllBelow}
 use Rattle.digits.specs.Numerals.{groupOf, lower}
 use Rattle.digits.specs.Pieces.{contains, separated}
-use Rattle.text.specs.Strict.{eightOf, strictOf, strictAnswer}
+use Rattle.groups.specs.EightGroups.{eightOf}
+use Rattle.text.specs.Strict.{strictOf, strictAnswer}
 use Rattle.text.proofs.CaseLaws.{lower-strict}
 use Rattle.text.proofs.FamilyLaws.{no-colon-4, colon-6}
 use Rattle.text.proofs.MeaningLaws.{strict-address}

@@ -21,8 +21,10 @@ use Rattle.digits.specs.Numerals.{digitOf, groupOf, decimal, hex}
 use Rattle.digits.specs.Pieces.{contains}
 use Rattle.digits.proofs.NumeralLaws.{hex-group}
 use Rattle.digits.proofs.SeparatedLaws.{Lacks, lacks-append, numerals-lack}
-use Rattle.text.specs.Strict.{eightOf, strictOf, strictAnswer}
-use Rattle.text.proofs.FamilyLaws.{colon-not-dotted, eight-colon}
+use Rattle.groups.specs.EightGroups.{eightOf}
+use Rattle.text.specs.Strict.{strictOf, strictAnswer}
+use Rattle.groups.proofs.ColonLaws.{colon-not-dotted}
+use Rattle.text.proofs.FamilyLaws.{eight-colon}
 use Rattle.text.proofs.SpellingLaws.{dotted-spelling, eight-spelling, gap-spelling}
 use Rattle.dotted.specs.Dotted.{dottedText, every, dottedOf}
 use Rattle.dotted.proofs.EveryLaws.{every-written, every-decimal}

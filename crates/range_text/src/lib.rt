@@ -12,11 +12,11 @@ use address::Address;
 use address::Block;
 use address::Reading;
 use blocks::put_block;
-use cover::next_block;
-use cover::next_narrow;
 use digits::read::find;
 use output::put;
 use output::put_decimal;
+use step::next_block;
+use step::next_narrow;
 use text::read_address;
 use wide::Wide;
 

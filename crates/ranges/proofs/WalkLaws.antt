@@ -1,5 +1,5 @@
 -- The walk over a range, block after block: the room that is left, and the records in the buffer. Assumes nothing.
-use mathlib.Core.Path.{_≡_, refl, sym, ap, ap₂, _∙_}
+use mathlib.Core.Path.{_≡_, refl, sym, ap, ap₂, subst, _∙_}
 use mathlib.Core.Logic.{_⊎_, inl, inr}
 use mathlib.Core.Bool.{true, false}
 use mathlib.Core.List.{List, [], _∷_, _++_, append-assoc, append-nil}
@@ -84,17 +84,37 @@ module _ {W first last room start left : ℕ} (i : Left W first last room start 
 
 -- ---- room for any range
 
-module _ (W : ℕ) (w : (W ≡ 32) ⊎ (W ≡ 128)) where
-  -- the code's numbers are small
-  pub most-small : (32 ≤ W) × (W ≤ 128) × ((2 * W - 2) * recordSize W ≤ 4318)
-  most-small = elim w [ inl e ↦ rw e (omega arith, omega arith, omega arith) | inr e ↦ rw e (omega arith, omega arith, omega arith) ]
+-- no range has more than 2 k - 2 blocks
+pub most-fits : (W k first last room : ℕ) → W ≡ k → 2 ≤ k → last < 2 ^ W → (2 * k - 2) * recordSize k ≤ room → true ≡ leb (length (recordsFrom W first last)) room
+most-fits W k first last room e two top h =
+    let bs = rangeBlocks W first last in
+    let many : 2 ≤ W = omega arith in
+    let few = mul-le-mul-right (recordSize W) (at-most W first last many top) in
+    let ample : (2 * W - 2) * recordSize W ≤ room = subst (λ (n : ℕ). (2 * n - 2) * recordSize n ≤ room) (sym e) h in
+    sym (le-leb (length (recordsOf W bs)) room (omega (arith, few, records-length W bs, mul-comm (length bs) (recordSize W))))
 
-  -- no range has more than 2 W - 2 blocks
-  pub most-fits : (first last room : ℕ) → last < 2 ^ W → (2 * W - 2) * recordSize W ≤ room → true ≡ leb (length (recordsFrom W first last)) room
-  most-fits first last room top h =
-      let bs = rangeBlocks W first last in
-      let few = mul-le-mul-right (recordSize W) (at-most W first last (omega (arith, most-small .0)) top) in
-      sym (le-leb (length (recordsOf W bs)) room (omega (arith, few, records-length W bs, mul-comm (length bs) (recordSize W))))
+-- ---- the families
+
+-- a width that is not that of IPv4 is that of IPv6
+pub width-wide : (W : ℕ) → (W ≡ 32) ⊎ (W ≡ 128) → ¬ (W ≡ 32) → W ≡ 128
+width-wide W w n = elim w [ inl e ↦ absurd (n e) | inr e ↦ e ]
+
+-- the lower halves of a range of IPv4 addresses are the range
+module _ (W a b x y : ℕ) (e : W ≡ 32) (h : a ≤ b) (top : b < 2 ^ W) (p : x ≡ a % 2 ^ 64) (q : y ≡ b % 2 ^ 64) where
+  lower-top : b < 2 ^ 32
+  lower-top = subst (λ (k : ℕ). b < 2 ^ k) e top
+
+  pub lower-first : x ≡ a
+  lower-first = omega (arith, lower-top)
+
+  pub lower-last : y ≡ b
+  lower-last = omega (arith, lower-top)
+
+  pub lower-range : (x ≤ y) × (y < 2 ^ 32)
+  lower-range = (omega (arith, lower-first, lower-last), omega (arith, lower-last, lower-top))
+
+  pub lower-records : recordsFrom 32 x y ≡ recordsFrom W a b
+  lower-records = rw (lower-first, lower-last, e)
 
 -- ---- the records in the buffer
 

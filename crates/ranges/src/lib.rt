@@ -8,14 +8,14 @@ ghost use lib.ListN.{length, drop};
 ghost use Rattle.wide.specs.Value.{value};
 ghost use Rattle.cover.specs.Blocks.{rangeBlocks};
 ghost use Rattle.address.specs.Addresses.{width, number};
-ghost use Rattle.records.specs.Records.{recordSize, recordsOf};
+ghost use Rattle.records.specs.Records.{recordsOf};
 ghost use Rattle.ranges.specs.Ranges.{rangeWritingAnswer, rangeAnswer, rangeLeaves};
 use address::Address;
 use address::Block;
 use address::Refusal;
-use cover::next_block;
-use cover::next_narrow;
 use records::put_record;
+use step::next_block;
+use step::next_narrow;
 use wide::Wide;
 
 // What a range answers: the number of blocks and of bytes.
@@ -24,34 +24,57 @@ pub enum RangeWriting {
     Refused(Refusal),
 }
 
-// Whether the records of a range have room in so many bytes.
-fn fits(first: Wide, last: Wide, bits: u32, room: usize) -> bool
-    requires { ⌜ ((bits ≡ 32) ⊎ (bits ≡ 128)) × (value first ≤ value last) × (value last < 2 ^ bits) ⌝ }
-    ensures { λ r. ⌜ r ≡ leb (length (recordsOf bits (rangeBlocks bits (value first) (value last)))) room ⌝ }
+// Whether the records of a range of IPv6 addresses have room in so many bytes.
+fn fits_wide(first: Wide, last: Wide, room: usize) -> bool
+    requires { ⌜ value first ≤ value last ⌝ }
+    ensures { λ r. ⌜ r ≡ leb (length (recordsOf 128 (rangeBlocks 128 (value first) (value last)))) room ⌝ }
 {
-    let size = (bits / 8 + 1) as usize;
     let mut start = first;
     let mut left = room;
-    while size <= left {
-        let end = next_block(start, last, bits).end;
+    while 17 <= left {
+        let end = next_block(start, last, 128).end;
         if !end.less(last) {
             return true;
         }
-        left -= size;
+        left -= 17;
         start = end.saturating_add(Wide::from_halves(0, 1));
     }
     false
 }
 
-// The same. No range has more than 2 * bits - 2 blocks, so that a buffer for so many needs no walk.
+// The same for IPv4 addresses, whose walk is twice as quick among numbers of 64 bits.
+fn fits_narrow(first: u64, last: u64, room: usize) -> bool
+    requires { ⌜ (first ≤ last) × (last < 2 ^ 32) ⌝ }
+    ensures { λ r. ⌜ r ≡ leb (length (recordsOf 32 (rangeBlocks 32 first last))) room ⌝ }
+{
+    let mut start = first;
+    let mut left = room;
+    while 5 <= left {
+        let step = next_narrow(start, last, 32);
+        if last <= step.end {
+            return true;
+        }
+        left -= 5;
+        start = step.end + 1;
+    }
+    false
+}
+
+// The same for either. No range has more than 2 * bits - 2 blocks, 62 or 254 records, so that a buffer for so many needs no walk.
 fn has_room(first: Wide, last: Wide, bits: u32, room: usize) -> bool
     requires { ⌜ ((bits ≡ 32) ⊎ (bits ≡ 128)) × (value first ≤ value last) × (value last < 2 ^ bits) ⌝ }
     ensures { λ r. ⌜ r ≡ leb (length (recordsOf bits (rangeBlocks bits (value first) (value last)))) room ⌝ }
 {
-    if ((2 * bits - 2) * (bits / 8 + 1)) as usize <= room {
+    if bits == 32 {
+        if 310 <= room {
+            return true;
+        }
+        return fits_narrow(first.lower(), last.lower(), room);
+    }
+    if 4318 <= room {
         return true;
     }
-    fits(first, last, bits, room)
+    fits_wide(first, last, room)
 }
 
 // Puts the records of a range of IPv6 addresses at the start of `out`, each into what is still free of it, and answers how many they are.
@@ -79,7 +102,7 @@ fn put_wide(first: Wide, last: Wide, out: &mut [u8]) -> usize
     }
 }
 
-// The same for IPv4 addresses, whose walk is twice as quick among numbers of 64 bits.
+// The same for IPv4 addresses.
 fn put_narrow(first: u64, last: u64, out: &mut [u8]) -> usize
     requires { ⌜ (first ≤ last) × (last < 2 ^ 32) × (length (recordsOf 32 (rangeBlocks 32 first last)) ≤ length (now out)) ⌝ }
     ensures { λ r. ⌜ (r ≡ length (rangeBlocks 32 first last)) × (now (out .exit) ≡ recordsOf 32 (rangeBlocks 32 first last) ++ drop (length (recordsOf 32 (rangeBlocks 32 first last))) (now (out .entry))) ⌝ }

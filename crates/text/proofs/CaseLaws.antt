@@ -10,7 +10,8 @@ use Rattle.digits.specs.Numerals.{lower, digitOf, allDigits, textNumber, leadin
 use Rattle.digits.specs.Pieces.{onFirst, splitOn}
 use Rattle.digits.proofs.NumeralLaws.{lower-digit, lower-same}
 use Rattle.dotted.specs.Dotted.{every, dottedOf}
-use Rattle.text.specs.Strict.{piecesOf, sideOf, gapOf, eightOf, strictOf}
+use Rattle.groups.specs.EightGroups.{piecesOf, sideOf, gapOf, eightOf}
+use Rattle.text.specs.Strict.{strictOf}
 
 -- ---- numbers
 

@@ -1,48 +1,24 @@
 -- What a strict text of each family holds, so that no text is of both. Assumes nothing.
 use mathlib.Core.Path.{_≡_, refl, sym, ap, _∙_}
-use mathlib.Core.Bool.{Bool, true, false, cond}
+use mathlib.Core.Bool.{Bool, true, false}
 use mathlib.Core.List.{List, [], _∷_, append-nil}
 use mathlib.Core.Option.{Option, some, none, Option·map}
 use Prim.Native.Nat.{ℕ, suc, _+_}
 use native.Mathlib.Omega.{arith}
 use borrow.Author.Tests.{le-ltb}
-use lib.Dec.{eqb, lit≤}
 use lib.ListN.{length}
 use Rattle.address.specs.declared.Address.{Address}
 use Rattle.address.specs.declared.Address.the-variants.{V4}
-use Rattle.octets.specs.BigEndian.{numberOf, digitsOf}
+use Rattle.octets.specs.BigEndian.{digitsOf}
 use Rattle.octets.specs.Octets.{groupsAddress}
-use Rattle.digits.specs.Numerals.{digitOf, partOf, groupOf}
-use Rattle.digits.specs.Pieces.{contains, splitOn}
-use Rattle.digits.proofs.NumeralLaws.{no-digit, part-digits}
-use Rattle.digits.proofs.SeparatedLaws.{Lacks, Each, lacks-split, split-lacks}
-use Rattle.dotted.specs.Dotted.{single, every, dottedOf}
-use Rattle.text.specs.Strict.{orElse, piecesOf, gapOf, eight, eightOf, strictOf}
+use Rattle.digits.specs.Numerals.{groupOf}
+use Rattle.digits.specs.Pieces.{contains}
+use Rattle.digits.proofs.SeparatedLaws.{Lacks, split-lacks}
+use Rattle.dotted.specs.Dotted.{single, dottedOf}
+use Rattle.groups.specs.EightGroups.{orElse, piecesOf, gapOf, eight, eightOf}
+use Rattle.text.specs.Strict.{strictOf}
+use Rattle.groups.proofs.ColonLaws.{dotted-no-colon}
 use Rattle.text.proofs.SpellingLaws.{gap-piece}
-use Rattle.dotted.proofs.EveryLaws.{every-reads, reads-each}
-
--- ---- IPv4
-
--- an IPv4 text holds digits and dots
-pub dotted-lacks : (b : ℕ) → digitOf b ≡ 16 → eqb 46 b ≡ false → (t : List ℕ) (v : ℕ) → dottedOf t ≡ some v → Lacks b t
-unfolding dottedOf
-dotted-lacks b n o t v e = lacks-split 46 b o t (go (eqb (length (splitOn 46 t)) 4) (every (partOf 255) (splitOn 46 t)) refl e)
-  where
-    go : (c : Bool) (os : Option (List ℕ)) → every (partOf 255) (splitOn 46 t) ≡ os → cond c (Option·map (numberOf 256) os) none ≡ some v → Each (Lacks b) (splitOn 46 t)
-    go true none q k = let z : _≡_ {A = ℕ} 0 1 = cc in absurd (omega arith)
-    go true (some xs) q k = reads-each (λ p x r. no-digit 10 b p (lit≤ tt) n (part-digits 255 p x r .all)) (every-reads (partOf 255) (splitOn 46 t) xs q)
-    go false os q k = let z : _≡_ {A = ℕ} 0 1 = cc in absurd (omega arith)
-
-pub dotted-no-colon : (t : List ℕ) (v : ℕ) → dottedOf t ≡ some v → contains 58 t ≡ false
-unfolding digitOf
-dotted-no-colon = dotted-lacks 58 refl refl
-
-pub colon-not-dotted : (t : List ℕ) → contains 58 t ≡ true → dottedOf t ≡ none
-colon-not-dotted t h = go (dottedOf t) refl
-  where
-    go : (o : Option ℕ) → dottedOf t ≡ o → o ≡ none
-    go none e = refl
-    go (some v) e = let z : _≡_ {A = ℕ} 0 1 = cc (dotted-no-colon t v e) in absurd (omega arith)
 
 -- ---- IPv6
 

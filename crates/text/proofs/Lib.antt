@@ -1,10 +1,7 @@
 -- SpellingLaws: any spelling is read as its groups. FamilyLaws: no text is of both families. CaseLaws: the case of letters does not matter.
 -- MeaningLaws: what is read is an address. StrictLaws: what reading answers.
--- GroupLaws: groups read piece after piece. GapLaws: the first `::` and what stands beside it.
 pub mod SpellingLaws
 pub mod FamilyLaws
 pub mod CaseLaws
 pub mod MeaningLaws
-pub mod GroupLaws
-pub mod GapLaws
 pub mod StrictLaws

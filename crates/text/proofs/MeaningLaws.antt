@@ -19,7 +19,8 @@ use Rattle.digits.specs.Numerals.{groupOf}
 use Rattle.digits.specs.Pieces.{splitOn}
 use Rattle.digits.proofs.NumeralLaws.{group-digits}
 use Rattle.dotted.specs.Dotted.{joined, single, dottedOf}
-use Rattle.text.specs.Strict.{orElse, tailOf, piecesOf, sideOf, gapOf, filled, eight, eightOf, strictOf}
+use Rattle.groups.specs.EightGroups.{orElse, tailOf, piecesOf, sideOf, gapOf, filled, eight, eightOf}
+use Rattle.text.specs.Strict.{strictOf}
 use Rattle.dotted.proofs.DottedLaws.{dotted-octets}
 
 -- ---- groups

@@ -16,7 +16,7 @@ use Rattle.digits.proofs.NumeralLaws.{no-digit, group-digits}
 use Rattle.digits.proofs.SeparatedLaws.{Lacks, Each, lacks-cons, split-separated, separated-cons}
 use Rattle.dotted.specs.Dotted.{single, every, dottedOf}
 use Rattle.dotted.proofs.EveryLaws.{Reads, done, more, every-reads, reads-each, reads-length, part-lacks}
-use Rattle.text.specs.Strict.{piecesOf, sideOf, gapOf, eightOf}
+use Rattle.groups.specs.EightGroups.{piecesOf, sideOf, gapOf, eightOf}
 
 -- ---- IPv4
 

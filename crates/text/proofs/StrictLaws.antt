@@ -16,7 +16,8 @@ use Rattle.address.specs.Answers.{refuses, noAddress, readingAnswer, readAnswer
 use Rattle.octets.specs.Octets.{groupsAddress}
 use Rattle.dotted.specs.Dotted.{dottedOf}
 use Rattle.text.specs.Inner.{asReading}
-use Rattle.text.specs.Strict.{orElse, eightOf, strictOf, knownFamily, strictAnswer}
+use Rattle.groups.specs.EightGroups.{orElse, eightOf}
+use Rattle.text.specs.Strict.{strictOf, knownFamily, strictAnswer}
 
 -- what an answer says of the definition
 pub read-says : (o : Option Address) (a : Address) → Read a ≡ asReading o → o ≡ some a

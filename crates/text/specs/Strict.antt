@@ -1,73 +1,16 @@
 -- Strict text (01, "Strict text"; RFC 3986 section 3.2.2 and RFC 4291 section 2.2). A text is the list of its bytes. Assumes nothing.
-use mathlib.Core.Bool.{Bool, true, false, cond, _&&_, _||_, not}
-use mathlib.Core.List.{List, [], _∷_, _++_}
-use mathlib.Core.Option.{Option, some, none, Option·map}
-use Prim.Native.Nat.{ℕ, zero, suc, _+_, _-_}
-use lib.Dec.{leb, ltb, eqb}
-use lib.ListN.{length, take, drop, replicate}
+use mathlib.Core.Bool.{Bool, cond, _||_, not}
+use mathlib.Core.List.{List, [], _∷_}
+use mathlib.Core.Option.{Option, none, Option·map}
+use Prim.Native.Nat.{ℕ}
+use lib.Dec.{ltb, eqb}
+use lib.ListN.{length}
 use Rattle.address.specs.declared.Address.{Address}
 use Rattle.address.specs.declared.Address.the-variants.{V4}
 use Rattle.address.specs.Answers.{Answer, readAnswer, noAddress}
-use Rattle.octets.specs.BigEndian.{digitsOf}
 use Rattle.octets.specs.Octets.{groupsAddress}
-use Rattle.digits.specs.Numerals.{groupOf}
-use Rattle.digits.specs.Pieces.{splitOn}
-use Rattle.dotted.specs.Dotted.{joined, single, dottedOf}
-
--- ---- what is there, and what is not
-
--- the first that is there
-abbrev pub orElse : {A : Type 0} → Option A → Option A → Option A
-orElse none b = b
-orElse (some a) b = some a
-
--- ---- IPv6
-
--- "The last two groups may be one strict IPv4 text."
-unfoldable pub tailOf : List ℕ → Option (List ℕ)
-unfolding digitsOf
-tailOf p = Option·map (digitsOf 65536 2) (dottedOf p)
-
--- the groups of pieces: each a group, but the last may be an IPv4 text where `dotted` allows it
-unfoldable pub piecesOf : Bool → List (List ℕ) → Option (List ℕ)
-unfolding tailOf
-piecesOf dotted [] = some []
-piecesOf dotted (p ∷ []) = orElse (single (groupOf p)) (cond dotted (tailOf p) none)
-piecesOf dotted (p ∷ q ∷ ps) = joined (single (groupOf p)) (piecesOf dotted (q ∷ ps))
-
--- the groups with "single colons between them" on one side of `::`, which may be none
-unfoldable pub sideOf : Bool → List ℕ → Option (List ℕ)
-unfolding piecesOf
-sideOf dotted [] = some []
-sideOf dotted (c ∷ t) = piecesOf dotted (splitOn 58 (c ∷ t))
-
--- the index of the first `::`, or the length where there is none
-unfoldable pub gapOf : List ℕ → ℕ
-gapOf [] = zero
-gapOf (x ∷ []) = suc zero
-gapOf (x ∷ y ∷ t) = cond (eqb x 58 && eqb y 58) zero (suc (gapOf (y ∷ t)))
-
--- "`::` may stand once for one or more whole zero groups, so at most seven groups stand beside it."
-abbrev pub filled : Option (List ℕ) → Option (List ℕ) → Option (List ℕ)
-filled none b = none
-filled (some xs) none = none
-filled (some xs) (some ys) =
-    cond (leb (length xs + length ys) 7) (some (xs ++ (replicate (8 - (length xs + length ys)) 0 ++ ys))) none
-
--- "eight groups"
-abbrev pub eight : Option (List ℕ) → Option (List ℕ)
-eight none = none
-eight (some xs) = cond (eqb (length xs) 8) (some xs) none
-
--- the eight groups of an IPv6 text. An IPv4 text is last, so none stands before `::`.
-unfoldable pub eightOf : List ℕ → Option (List ℕ)
-unfolding sideOf gapOf
-eightOf t =
-    cond (ltb (gapOf t) (length t))
-    (filled (sideOf false (take (gapOf t) t)) (sideOf true (drop (gapOf t + 2) t)))
-    (eight (sideOf true t))
-
--- ---- both families
+use Rattle.dotted.specs.Dotted.{dottedOf}
+use Rattle.groups.specs.EightGroups.{orElse, eightOf}
 
 -- the address of a strict text of family 4, of family 6, or else of either
 unfoldable pub strictOf : ℕ → List ℕ → Option Address

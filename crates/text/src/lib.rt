@@ -6,7 +6,8 @@ ghost use Rattle.address.specs.declared.Address.the-variants.{V4};
 ghost use Rattle.octets.specs.Octets.{groupsAddress};
 ghost use Rattle.dotted.specs.Dotted.{dottedOf};
 ghost use Rattle.text.specs.Inner.{asReading};
-ghost use Rattle.text.specs.Strict.{orElse, eightOf, knownFamily, strictAnswer};
+ghost use Rattle.groups.specs.EightGroups.{orElse, eightOf};
+ghost use Rattle.text.specs.Strict.{knownFamily, strictAnswer};
 use address::Address;
 use address::Reading;
 use address::Refusal;
@@ -14,8 +15,6 @@ use dotted::Dotted;
 use dotted::read_dotted;
 use groups::read_eight;
 use octets::groups::from_groups;
-
-mod groups;
 
 fn read_ipv4(text: &[u8]) -> Reading
     ensures { λ r. ⌜ r ≡ asReading (Option·map V4 (dottedOf (now (text .entry)))) ⌝ }

@@ -7,9 +7,9 @@ use denote.Ref.{now}
 use lib.ListN.{take}
 use lib.Seq.{length-take-le}
 use Rattle.digits.proofs.PieceLaws.{index-le}
-use Rattle.network.specs.declared.given.Given.the-variants.{Bytes}
-use Rattle.network.specs.Inner.{asGiven}
-use Rattle.network.specs.Network.{givenOf}
+use Rattle.given.specs.declared.Given.the-variants.{Bytes}
+use Rattle.given.specs.GivenBytes.{asGiven}
+use Rattle.given.specs.GivenBytes.{givenOf}
 use Rattle.network.proofs.NetworkLaws.{given-count, inferred-most, answer-long, none-given, no-size, inferred-stored, sized-large, sized-stored}
 use Rattle.network.proofs.read_network.Statement.{statement}
 use Rattle.network.proofs.read_network.Tie as tie

@@ -1,0 +1,2 @@
+-- GivenLaws: the bytes that a text gives, as the code reads them.
+pub mod GivenLaws

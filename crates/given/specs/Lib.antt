@@ -1,0 +1,2 @@
+-- GivenBytes: the bytes that a network text gives.
+pub mod GivenBytes
