@@ -11,7 +11,7 @@ use Rattle.loose.specs.Loose.{looseAnswer}
 use Rattle.network.specs.Network.{networkAnswer, networkLeaves, networkText}
 use Rattle.blocks.specs.BlockText.{blockTextAnswer}
 use Rattle.ranges.specs.Ranges.{rangeAnswer, rangeLeaves}
-use Rattle.specimens.specs.Specimens.{AllCorrect, noMore, _also_, specimens}
+use Rattle.specimen_table.specs.Specimens.{AllCorrect, noMore, _also_, specimens}
 
 -- Every row of the table is correct.
 pub all-correct : AllCorrect specimens

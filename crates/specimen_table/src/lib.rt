@@ -1,0 +1,1 @@
+// The specimens of the rules that are proved, as a table and the claim that it holds: see specs/ and proofs/. No code.
