@@ -11,8 +11,9 @@ use Rattle.address.specs.Answers.{gives}
 use Rattle.octets.specs.BigEndian.{digitsOf}
 use Rattle.digits.specs.Numerals.{numeral}
 use Rattle.given.specs.GivenBytes.{zeroFilled}
-use Rattle.network.specs.Network.{Network, sizeBytes, networkOf, networkAnswer, networkLeaves, networkReadingAnswer, cleared, networkText}
-use Rattle.network.proofs.TextLaws.{cleared-high, text-most}
+use Rattle.network_text.specs.NetworkText.{sizeBytes, cleared, networkText}
+use Rattle.network_text.proofs.TextLaws.{cleared-high, text-most}
+use Rattle.network.specs.Network.{Network, networkOf, networkAnswer, networkLeaves, networkReadingAnswer}
 use Rattle.network.proofs.ReadBackLaws.{written, written-read, written-filled, written-answer}
 use Rattle.address.proofs.Claims.{Cases, given, not-given, one-answer}
 use Rattle.network.specs.declared.NetworkReading.{NetworkReading}

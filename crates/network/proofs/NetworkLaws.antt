@@ -30,7 +30,8 @@ use Rattle.dotted.proofs.DottedLaws.{Octets}
 use Rattle.given.specs.declared.Given.the-variants.{Bytes, NotGiven}
 use Rattle.given.specs.GivenBytes.{asGiven}
 use Rattle.given.specs.GivenBytes.{givenOf, zeroFilled}
-use Rattle.network.specs.Network.{Network, classSize, widened, inferredSize, sizeBytes, completed, sized, networkOf, networkAnswer, networkLeaves}
+use Rattle.network_text.specs.NetworkText.{sizeBytes}
+use Rattle.network.specs.Network.{Network, classSize, widened, inferredSize, completed, sized, networkOf, networkAnswer, networkLeaves}
 use Rattle.given.proofs.GivenLaws.{given-octets, bytes-says, not-given-says}
 
 -- ---- zeros behind bytes

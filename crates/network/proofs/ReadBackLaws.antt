@@ -22,9 +22,10 @@ use Rattle.digits.proofs.SeparatedLaws.{Lacks, seam, numerals-lack}
 use Rattle.dotted.proofs.DottedLaws.{parts-spelling}
 use Rattle.dotted.proofs.EveryLaws.{every-decimal}
 use Rattle.given.specs.GivenBytes.{givenOf, zeroFilled}
-use Rattle.network.specs.Network.{Network, sizeBytes, completed, networkOf, networkAnswer, networkLeaves, cleared, networkText}
+use Rattle.network_text.specs.NetworkText.{sizeBytes, cleared, networkText}
+use Rattle.network_text.proofs.TextLaws.{cleared-high, text-most}
+use Rattle.network.specs.Network.{Network, completed, networkOf, networkAnswer, networkLeaves}
 use Rattle.network.proofs.NetworkLaws.{answer-stored}
-use Rattle.network.proofs.TextLaws.{cleared-high, text-most}
 
 -- ---- a text with a slash
 

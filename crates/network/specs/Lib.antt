@@ -1,2 +1,2 @@
--- Network: the network form, read and written.
+-- Network: the network form, read.
 pub mod Network

@@ -1,17 +1,15 @@
--- The network form (01, "Network form"; document 000). A text is the list of its bytes. Assumes nothing.
+-- The network form, read (01, "Network form"; document 000). A text is the list of its bytes. Assumes nothing.
 use mathlib.Core.Bool.{Bool, cond, _&&_}
-use mathlib.Core.List.{List, [], _∷_, _++_, map}
+use mathlib.Core.List.{List, [], _∷_}
 use mathlib.Core.Option.{Option, some, none, Option·map, Option·getD}
-use Prim.Native.Nat.{ℕ, suc, _+_, _-_, _*_, _/_, _%_, _^_, max}
-use lib.Dec.{leb, ltb, eqb}
+use Prim.Native.Nat.{ℕ, suc, _*_, max}
+use lib.Dec.{leb, ltb}
 use lib.ListN.{length, take, drop, getD}
-use Rattle.address.specs.declared.Address.{Address}
-use Rattle.address.specs.Addresses.{family}
 use Rattle.address.specs.Answers.{Answer, answer, gives, refuses, missing, refusal, writeRefusal, writeLeaves}
-use Rattle.octets.specs.BigEndian.{digitsOf}
-use Rattle.digits.specs.Numerals.{partOf, decimal}
-use Rattle.digits.specs.Pieces.{contains, indexOf, separated}
+use Rattle.digits.specs.Numerals.{partOf}
+use Rattle.digits.specs.Pieces.{contains, indexOf}
 use Rattle.given.specs.GivenBytes.{givenOf, zeroFilled}
+use Rattle.network_text.specs.NetworkText.{sizeBytes}
 use Rattle.network.specs.declared.NetworkReading.{NetworkReading}
 use Rattle.network.specs.declared.NetworkReading.the-variants.{Read, Refused}
 
@@ -28,10 +26,6 @@ widened count size = cond (leb 8 size && ltb size (8 * count)) (8 * count) size
 unfoldable pub inferredSize : List ℕ → ℕ
 unfolding classSize widened
 inferredSize given = widened (length given) (classSize (getD given 0 0))
-
--- "the size divided by eight, rounded up"
-abbrev pub sizeBytes : ℕ → ℕ
-sizeBytes size = (size + 7) / 8
 
 -- ---- a network
 
@@ -84,18 +78,3 @@ networkLeaves t old = writeLeaves (readReasons t (networkOf t)) (Option·getD (n
 abbrev pub networkReadingAnswer : NetworkReading → Answer (ℕ × ℕ)
 networkReadingAnswer (Read size count) = gives (size, count)
 networkReadingAnswer (Refused e) = refuses (0, 0) e
-
--- ---- writing
-
--- a number of W bits, "bits beyond the size cleared"
-unfoldable pub cleared : ℕ → ℕ → ℕ → ℕ
-cleared W size v = v - v % 2 ^ (W - size)
-
--- "the first (size/8, rounded up) bytes in decimal with dots, bits beyond the size cleared, a slash and the size. Size 0 writes `0/0`."
-unfoldable pub networkText : ℕ → ℕ → List ℕ
-unfolding cleared digitsOf separated
-networkText v size = separated 46 (map decimal (take (max 1 (sizeBytes size)) (digitsOf 256 4 (cleared 32 size v)))) ++ 47 ∷ decimal size
-
--- "an IPv6 address is handed to [...] the network writer", "a length or bit count is above 32"
-abbrev pub writeReasons : Address → ℕ → List (ℕ × Bool)
-writeReasons a size = (9, eqb (family a) 6) ∷ (4, ltb 32 size) ∷ []

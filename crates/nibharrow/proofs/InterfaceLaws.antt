@@ -15,7 +15,7 @@ use Rattle.address.specs.Answers.{Answer, gives, refuses, refusalNumber, writeA
 use Rattle.address.proofs.AnswerLaws.{nonzero}
 use Rattle.blocks.specs.BlockText.{blockText}
 use Rattle.blocks.proofs.BlockTextLaws.{width-most}
-use Rattle.network.specs.Network.{networkText}
+use Rattle.network_text.specs.NetworkText.{networkText}
 use Rattle.text.specs.Strict.{knownFamily, strictAnswer}
 use Rattle.text.proofs.StrictLaws.{strict-unknown}
 use Rattle.nibharrow.specs.Interface.{Outcome, outcome, whenGiven, addressInto, rangeTo, writes, networkWrites, besides, blockWrites}

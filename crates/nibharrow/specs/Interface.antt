@@ -11,7 +11,8 @@ use Rattle.address.specs.Answers.{Answer, answer, writeAnswer, writeLeaves}
 use Rattle.address.specs.Blocks.{blockReasons}
 use Rattle.octets.specs.Octets.{octets, octetsAnswer}
 use Rattle.normal.specs.Normal.{normalText}
-use Rattle.network.specs.Network.{networkAnswer, networkLeaves, writeReasons, networkText}
+use Rattle.network_text.specs.NetworkText.{networkText, writeReasons}
+use Rattle.network.specs.Network.{networkAnswer, networkLeaves}
 use Rattle.classes.specs.Classes.{splitAnswer}
 use Rattle.blocks.specs.BlockText.{blockTextAnswer, blockText}
 use Rattle.ranges.specs.Ranges.{rangeAnswer, rangeLeaves}

@@ -21,7 +21,7 @@ use classes::split;
 use loose::read_loose;
 use network::NetworkReading;
 use network::read_network;
-use network::write_network;
+use network_text::write_network;
 use normal::write_address;
 use octets::bytes::read_octets;
 use octets::bytes::write_octets;

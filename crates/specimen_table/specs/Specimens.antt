@@ -13,7 +13,8 @@ use Rattle.digits.specs.Ascii.{ascii}
 use Rattle.text.specs.Strict.{strictAnswer}
 use Rattle.normal.specs.Normal.{normalText}
 use Rattle.loose.specs.Loose.{looseAnswer}
-use Rattle.network.specs.Network.{networkAnswer, networkLeaves, networkText}
+use Rattle.network_text.specs.NetworkText.{networkText}
+use Rattle.network.specs.Network.{networkAnswer, networkLeaves}
 use Rattle.blocks.specs.BlockText.{blockTextAnswer}
 use Rattle.ranges.specs.Ranges.{rangeAnswer, rangeLeaves}
 

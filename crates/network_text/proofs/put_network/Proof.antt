@@ -1,10 +1,10 @@
--- `network::put_network` meets its contract. Assumes nothing.
+-- `network_text::put_network` meets its contract. Assumes nothing.
 use native.Mathlib.Omega.{arith}
 use borrow.Author.Needs.{needs}
 use Rattle.output.proofs.PlacingLaws.{puts-then}
-use Rattle.network.proofs.TextLaws.{text-put}
-use Rattle.network.proofs.put_network.Statement.{statement}
-use Rattle.network.proofs.put_network.Tie as tie
+use Rattle.network_text.proofs.TextLaws.{text-put}
+use Rattle.network_text.proofs.put_network.Statement.{statement}
+use Rattle.network_text.proofs.put_network.Tie as tie
 
 clear-requires : tie.Need-clear-requires
 clear-requires c κs = search needs

@@ -20,7 +20,7 @@ use Rattle.digits.specs.Numerals.{decimal}
 use Rattle.digits.specs.Pieces.{separated}
 use Rattle.digits.proofs.SeparatedLaws.{numerals-most}
 use Rattle.output.proofs.WriteLaws.{decimal-written}
-use Rattle.network.specs.Network.{sizeBytes, cleared, networkText, writeReasons}
+use Rattle.network_text.specs.NetworkText.{sizeBytes, cleared, networkText, writeReasons}
 
 -- ---- bits beyond the size cleared
 

@@ -1,13 +1,13 @@
--- `network::clear` meets its contract. Assumes nothing.
+-- `network_text::clear` meets its contract. Assumes nothing.
 use Prim.Native.Nat.{_-_, _^_}
 use native.Mathlib.Nat.{mod-le}
 use native.Mathlib.Omega.{arith}
 use borrow.Author.Needs.{needs}
 use lib.Pow.{pow-pos}
-use Rattle.network.specs.Network.{cleared}
-use Rattle.network.proofs.TextLaws.{shifted}
-use Rattle.network.proofs.clear.Statement.{statement}
-use Rattle.network.proofs.clear.Tie as tie
+use Rattle.network_text.specs.NetworkText.{cleared}
+use Rattle.network_text.proofs.TextLaws.{shifted}
+use Rattle.network_text.proofs.clear.Statement.{statement}
+use Rattle.network_text.proofs.clear.Tie as tie
 
 sub-beyond : tie.Need-sub-beyond
 sub-beyond c = search needs

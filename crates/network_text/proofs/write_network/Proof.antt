@@ -1,4 +1,4 @@
--- `network::write_network` meets its contract. Assumes nothing.
+-- `network_text::write_network` meets its contract. Assumes nothing.
 use mathlib.Core.Path.{_≡_, sym, ap, _∙_}
 use mathlib.Core.List.{List}
 use Prim.Native.Nat.{ℕ}
@@ -6,10 +6,10 @@ use native.Mathlib.Omega.{arith}
 use borrow.Author.Needs.{needs}
 use lib.ListN.{length, take}
 use Rattle.output.proofs.PlacingLaws.{puts-whole}
-use Rattle.network.specs.Network.{networkText}
-use Rattle.network.proofs.TextLaws.{text-most, write-6, write-large, write-sized}
-use Rattle.network.proofs.write_network.Statement.{statement}
-use Rattle.network.proofs.write_network.Tie as tie
+use Rattle.network_text.specs.NetworkText.{networkText}
+use Rattle.network_text.proofs.TextLaws.{text-most, write-6, write-large, write-sized}
+use Rattle.network_text.proofs.write_network.Statement.{statement}
+use Rattle.network_text.proofs.write_network.Tie as tie
 
 enum-known-address : tie.Need-enum-known-address
 enum-known-address c = search needs

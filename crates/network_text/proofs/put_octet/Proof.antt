@@ -1,8 +1,8 @@
--- `network::put_octet` meets its contract. Assumes nothing.
+-- `network_text::put_octet` meets its contract. Assumes nothing.
 use borrow.Author.Needs.{needs}
 use Rattle.output.proofs.PlacingLaws.{puts-then, puts-none}
-use Rattle.network.proofs.put_octet.Statement.{statement}
-use Rattle.network.proofs.put_octet.Tie as tie
+use Rattle.network_text.proofs.put_octet.Statement.{statement}
+use Rattle.network_text.proofs.put_octet.Tie as tie
 
 put-requires : tie.Need-put-requires
 put-requires c κs = search needs

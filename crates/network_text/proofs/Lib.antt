@@ -1,0 +1,2 @@
+-- TextLaws: the text as the code puts it, and what writing answers.
+pub mod TextLaws

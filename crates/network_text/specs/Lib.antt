@@ -1,0 +1,2 @@
+-- NetworkText: the network form, written.
+pub mod NetworkText
