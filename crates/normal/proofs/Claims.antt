@@ -6,18 +6,20 @@ use mathlib.Core.Option.{Option, some, none}
 use Prim.Native.Nat.{ℕ, _+_, _-_, _≤_, _<_}
 use native.Mathlib.Omega.{arith}
 use borrow.Author.Tests.{lt-ltb, le-ltb}
+use lib.Dec.{eqb}
 use lib.ListN.{length, replicate}
 use Rattle.address.specs.declared.Address.{Address}
 use Rattle.address.specs.declared.Address.the-variants.{V4, V6}
 use Rattle.address.specs.Addresses.{IsAddress, family}
 use Rattle.address.specs.Answers.{gives}
 use Rattle.octets.specs.BigEndian.{AllBelow}
-use Rattle.digits.specs.Numerals.{groupOf, lower}
+use Rattle.digits.specs.Numerals.{digitOf, groupOf, lower}
 use Rattle.digits.specs.Pieces.{contains, separated}
 use Rattle.groups.specs.EightGroups.{eightOf}
 use Rattle.text.specs.Strict.{strictOf, strictAnswer}
 use Rattle.text.proofs.CaseLaws.{lower-strict}
 use Rattle.text.proofs.FamilyLaws.{no-colon-4, colon-6}
+use Rattle.text.proofs.ByteLaws.{strict-lacks}
 use Rattle.text.proofs.MeaningLaws.{strict-address}
 use Rattle.text.proofs.SpellingLaws.{eight-spelling, gap-spelling}
 use Rattle.dotted.specs.Dotted.{every}
@@ -98,6 +100,11 @@ always-colon = colon-6
 
 pub never-colon : (t : List ℕ) (a : Address) → strictOf 4 t ≡ some a → contains 58 t ≡ false
 never-colon = no-colon-4
+
+-- "A zero byte inside it is a wrong byte. Surrounding blanks are wrong bytes": so is every byte but a hex digit, a dot and a colon, so that
+-- no zone, port or bracket is read.
+pub only-these : (b : ℕ) → digitOf b ≡ 16 → eqb 46 b ≡ false → eqb 58 b ≡ false → (family : ℕ) (t : List ℕ) (a : Address) → strictOf family t ≡ some a → contains b t ≡ false
+only-these = strict-lacks
 
 -- "No text is both".
 pub not-both : (t : List ℕ) (a : Address) → strictOf 4 t ≡ some a → strictOf 6 t ≡ none
