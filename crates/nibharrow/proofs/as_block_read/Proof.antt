@@ -1,5 +1,5 @@
 -- `nibharrow::as_block_read` meets its contract. Assumes nothing.
-use mathlib.Core.Path.{_≡_, refl, sym, ap, _∙_}
+use mathlib.Core.Path.{sym, ap, _∙_}
 use Rattle.address.specs.Answers.{writingAnswer}
 use Rattle.address.proofs.AnswerLaws.{nonzero}
 use Rattle.nibharrow.specs.Interface.{besides}

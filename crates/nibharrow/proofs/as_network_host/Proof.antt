@@ -1,5 +1,5 @@
 -- `nibharrow::as_network_host` meets its contract. Assumes nothing.
-use mathlib.Core.Path.{_≡_, refl, sym, ap, _∙_}
+use mathlib.Core.Path.{sym, ap, _∙_}
 use Rattle.classes.specs.Classes.{splittingAnswer}
 use borrow.Author.Needs.{needs}
 use Rattle.nibharrow.proofs.as_network_host.Statement.{statement}

@@ -1,5 +1,5 @@
 -- `nibharrow::as_range_written` meets its contract. Assumes nothing.
-use mathlib.Core.Path.{_≡_, refl, sym, ap, _∙_}
+use mathlib.Core.Path.{sym, ap, _∙_}
 use Rattle.ranges.specs.Ranges.{rangeWritingAnswer}
 use borrow.Author.Needs.{needs}
 use Rattle.nibharrow.proofs.as_range_written.Statement.{statement}

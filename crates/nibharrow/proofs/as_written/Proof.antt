@@ -1,5 +1,5 @@
 -- `nibharrow::as_written` meets its contract. Assumes nothing.
-use mathlib.Core.Path.{_≡_, refl, sym, ap, _∙_}
+use mathlib.Core.Path.{sym, ap, _∙_}
 use Rattle.address.specs.Answers.{writingAnswer}
 use borrow.Author.Needs.{needs}
 use Rattle.nibharrow.proofs.as_written.Statement.{statement}

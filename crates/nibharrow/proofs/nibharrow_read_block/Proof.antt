@@ -1,5 +1,5 @@
 -- `nibharrow::nibharrow_read_block` meets its contract. Assumes nothing.
-use mathlib.Core.Path.{_≡_, refl, sym, ap, _∙_}
+use mathlib.Core.Path.{refl, sym, ap, _∙_}
 use Rattle.address.specs.Answers.{noBlock, blockAnswer}
 use Rattle.nibharrow.specs.Interface.{besides, blockInto}
 use Rattle.nibharrow.proofs.InterfaceLaws.{both, when-given, when-refused, refused-besides}

@@ -1,5 +1,5 @@
 -- `nibharrow::nibharrow_read_network` meets its contract. Assumes nothing.
-use mathlib.Core.Path.{_≡_, refl, sym, ap, _∙_}
+use mathlib.Core.Path.{sym, ap, _∙_}
 use Rattle.network.specs.Network.{networkReadingAnswer}
 use Rattle.nibharrow.specs.Interface.{networkInto}
 use Rattle.nibharrow.proofs.InterfaceLaws.{both}

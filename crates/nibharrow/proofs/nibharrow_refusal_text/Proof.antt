@@ -1,5 +1,4 @@
 -- `nibharrow::nibharrow_refusal_text` meets its contract. Assumes nothing.
-use mathlib.Core.Path.{_≡_, _∙_}
 use Rattle.nibharrow.specs.Interface.{wordsInto}
 use Rattle.nibharrow.proofs.InterfaceLaws.{wrote}
 use borrow.Author.Needs.{needs}

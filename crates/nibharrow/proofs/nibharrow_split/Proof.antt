@@ -1,5 +1,5 @@
 -- `nibharrow::nibharrow_split` meets its contract. Assumes nothing.
-use mathlib.Core.Path.{_≡_, refl, sym, ap, _∙_}
+use mathlib.Core.Path.{sym, ap, _∙_}
 use Rattle.address.specs.Answers.{noAddress, readingAnswer}
 use Rattle.nibharrow.specs.Interface.{octetsSplit}
 use Rattle.nibharrow.proofs.InterfaceLaws.{when-given, when-refused}

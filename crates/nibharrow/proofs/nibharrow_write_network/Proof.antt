@@ -1,5 +1,5 @@
 -- `nibharrow::nibharrow_write_network` meets its contract. Assumes nothing.
-use mathlib.Core.Path.{_≡_, refl, sym, ap, _∙_}
+use mathlib.Core.Path.{refl, sym, ap, _∙_}
 use Rattle.address.specs.Answers.{noAddress, readingAnswer}
 use Rattle.nibharrow.specs.Interface.{networkWritten}
 use Rattle.nibharrow.proofs.InterfaceLaws.{both, wrote, when-given, when-refused, size-cut}

@@ -1,5 +1,4 @@
 -- `nibharrow::refused` meets its contract. Assumes nothing.
-use mathlib.Core.Path.{_≡_, refl, sym, ap, _∙_}
 use borrow.Author.Needs.{needs}
 use Rattle.nibharrow.proofs.refused.Statement.{statement}
 use Rattle.nibharrow.proofs.refused.Tie as tie
