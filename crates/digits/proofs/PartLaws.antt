@@ -79,24 +79,6 @@ starts (c ∷ t) h = go (ltb (digitOf c) 10) refl h
     go true e h = (omega arith, refl, ltb-true (digitOf c) 10 e)
     go false e h = absurd (omega arith)
 
-pub decimal-most : (t : List ℕ) → decimalOf t ≤ 32
-unfolding decimalOf
-decimal-most [] = omega arith
-decimal-most (c ∷ t) = go (ltb (digitOf c) 10) refl
-  where
-    go : (b : Bool) → ltb (digitOf c) 10 ≡ b → cond b (digitOf c) 32 ≤ 32
-    go true e = omega (arith, ltb-true (digitOf c) 10 e)
-    go false e = omega arith
-
-decimal-small : (t : List ℕ) → decimalOf t < 32 → decimalOf t ≤ 9
-unfolding decimalOf
-decimal-small [] h = absurd (omega arith)
-decimal-small (c ∷ t) h = go (ltb (digitOf c) 10) refl h
-  where
-    go : (b : Bool) → ltb (digitOf c) 10 ≡ b → cond b (digitOf c) 32 < 32 → cond b (digitOf c) 32 ≤ 9
-    go true e h = omega (arith, ltb-true (digitOf c) 10 e)
-    go false e h = absurd (omega arith)
-
 not-zero : (t : List ℕ) → 1 ≤ decimalOf t → getD t 0 0 ≡ 48 → ⊥
 unfolding decimalOf digitOf
 not-zero [] h e = omega arith
@@ -201,15 +183,18 @@ module _ (t : List ℕ) where
                 let long = lt-ltb 3 (length (take (digitCount 10 t) t)) (omega (arith, more, length-take-le (digitCount 10 t) t (count-le 10 t))) in
                 refused (ap (λ b. leadingZero (take (digitCount 10 t) t) || b) long ∙ or-true (leadingZero (take (digitCount 10 t) t)))
 
-          -- two or three of them: no digit adds up to 32 with another
-          module _ (c : ℕ) (ec : c ≡ decimalOf (drop 2 t)) (d : ℕ) (ed : d ≡ decimalOf (drop 3 t)) where
-            pub part-four : c + d < 32 → Nothing ≡ leading 10 (partOf most) t
-            part-four h = part-long c ec (omega (arith, ec, decimal-small (drop 2 t) (omega (arith, ec)))) (decimal-small (drop 3 t) (omega (arith, ed)))
+          -- two or three of them, and the digit behind
+          module _ (c : ℕ) (ec : c ≡ decimalOf (drop 2 t)) (n : ℕ) (en : n ≡ cond (leb c 9) 3 2) where
+            pub part-four : decimalOf (drop n t) ≤ 9 → Nothing ≡ leading 10 (partOf most) t
+            part-four h = elim (decLe c 9) [
+              | yes l ↦ let e : n ≡ 3 = rw (le-leb c 9 l) at en in part-long c ec l (subst (λ k. decimalOf (drop k t) ≤ 9) e h)
+              | no f ↦ let e : n ≡ 2 = rw (lt-leb c 9 (omega arith)) at en in absurd (omega (arith, ec, ap (λ k. decimalOf (drop k t)) e))
+            ]
 
-            pub part-more : 32 ≤ c + d → asLeading (atMost most (some (cond (leb c 9) ((a * 10 + b) * 10 + c) (a * 10 + b)))) (cond (leb c 9) 3 2) ≡ leading 10 (partOf most) t
+            pub part-more : 9 < decimalOf (drop n t) → asLeading (atMost most (some (cond (leb c 9) ((a * 10 + b) * 10 + c) (a * 10 + b)))) n ≡ leading 10 (partOf most) t
             part-more h = elim (decLe c 9) [
-              | yes l ↦ rw (le-leb c 9 l) (part-three c ec l (omega (arith, ed)))
-              | no n ↦ rw (lt-leb c 9 (omega arith)) (part-two (omega (arith, ec)))
+              | yes l ↦ let e : n ≡ 3 = rw (le-leb c 9 l) at en in rw (le-leb c 9 l, e) (part-three c ec l (subst (λ k. 9 < decimalOf (drop k t)) e h))
+              | no f ↦ let e : n ≡ 2 = rw (lt-leb c 9 (omega arith)) at en in rw (lt-leb c 9 (omega arith), e) (part-two (subst (λ k. 9 < decimalOf (drop k t)) e h))
             ]
 
 -- ---- groups

@@ -123,13 +123,13 @@ pub fn leading_part(text: &[u8], most: u32) -> Leading
         return Leading::Nothing;
     }
     let c = decimal_at(text, 2);
-    if c + decimal_at(text, 3) < 32 {
-        return Leading::Nothing;
-    }
     let two = (a as u32) * 10 + (b as u32);
     let value = choose(c <= 9, two * 10 + (c as u32), two);
-    let count = choose(c <= 9, 3, 2);
-    at_most(value, count as usize, most)
+    let count = choose(c <= 9, 3, 2) as usize;
+    if decimal_at(text, count) <= 9 {
+        return Leading::Nothing;
+    }
+    at_most(value, count, most)
 }
 
 // A whole text that is such a part: its number, and how many digits it has.

@@ -1,12 +1,11 @@
 -- `digits::read::leading_part` meets its contract. Assumes nothing.
-use mathlib.Core.Path.{ap₂, _∙_}
+use mathlib.Core.Path.{ap, _∙_}
 use mathlib.Core.Option.{some}
 use native.Mathlib.Omega.{arith}
 use borrow.Author.Needs.{needs}
 use denote.Ref.{now}
-use lib.ListN.{drop}
 use Rattle.digits.specs.Numerals.{atMost, asLeading}
-use Rattle.digits.proofs.PartLaws.{decimal-most, part-none, part-one, part-zero, part-four, part-more}
+use Rattle.digits.proofs.PartLaws.{part-none, part-one, part-zero, part-four, part-more}
 use Rattle.digits.proofs.read.leading_part.Statement.{statement}
 use Rattle.digits.proofs.read.leading_part.Tie as tie
 
@@ -42,22 +41,6 @@ returns-3 c =
 decimal-at-requires-3 : tie.Need-decimal-at-requires-3
 decimal-at-requires-3 c κs = search needs
 
-decimal-at-requires-4 : tie.Need-decimal-at-requires-4
-decimal-at-requires-4 c κs = search needs
-
-add-if4 : tie.Need-add-if4
-add-if4 c =
-    let t = now (c .before .before .before .before .before .before .before .before .args .text) in
-    omega (arith, c .before .decimal-at3 .ensures, c .decimal-at4 .ensures, decimal-most (drop 2 t), decimal-most (drop 3 t))
-
-returns-4 : tie.Need-returns-4
-returns-4 c =
-    let f = c .before in
-    let e = f .before .before .before .before in
-    let d = e .before .before in
-    let a = d .before .before .args in
-    part-four (now (a .text)) (a .most) (d .decimal-at .result) (d .decimal-at .ensures) (omega arith) (e .decimal-at2 .result) (e .decimal-at2 .ensures) (omega arith) (omega arith) (f .before .decimal-at3 .result) (f .before .decimal-at3 .ensures) (f .decimal-at4 .result) (f .decimal-at4 .ensures) (c .if4 .taken)
-
 cast-two : tie.Need-cast-two
 cast-two c = search needs
 
@@ -85,21 +68,34 @@ choose-requires c κs = search needs
 choose-requires-2 : tie.Need-choose-requires-2
 choose-requires-2 c κs = search needs
 
-cast-at-most-2 : tie.Need-cast-at-most-2
-cast-at-most-2 c = search needs
+cast-count : tie.Need-cast-count
+cast-count c = search needs
+
+decimal-at-requires-4 : tie.Need-decimal-at-requires-4
+decimal-at-requires-4 c κs = search needs
+
+returns-4 : tie.Need-returns-4
+returns-4 c =
+    let n = c .before .before in
+    let f = n .before .before in
+    let e = f .before .before .before in
+    let d = e .before .before in
+    let a = d .before .before .args in
+    part-four (now (a .text)) (a .most) (d .decimal-at .result) (d .decimal-at .ensures) (omega arith) (e .decimal-at2 .result) (e .decimal-at2 .ensures) (omega arith) (omega arith) (f .decimal-at3 .result) (f .decimal-at3 .ensures) (n .choose2 .result) (n .choose2 .ensures) (omega (arith, c .before .decimal-at4 .ensures))
 
 at-most-requires-2 : tie.Need-at-most-requires-2
 at-most-requires-2 c κs = search needs
 
 returns-5 : tie.Need-returns-5
 returns-5 c =
-    let f = c .before .before .before .before in
-    let e = f .before .before .before .before in
+    let n = c .before .before .before in
+    let f = n .before .before in
+    let e = f .before .before .before in
     let d = e .before .before in
     let a = d .before .before .args in
     c .at-most2 .ensures
-    ∙ ap₂ (λ v n. asLeading (atMost (a .most) (some v)) n) (c .before .before .choose .ensures) (c .before .choose2 .ensures)
-    ∙ part-more (now (a .text)) (a .most) (d .decimal-at .result) (d .decimal-at .ensures) (omega arith) (e .decimal-at2 .result) (e .decimal-at2 .ensures) (omega arith) (omega arith) (f .before .decimal-at3 .result) (f .before .decimal-at3 .ensures) (f .decimal-at4 .result) (f .decimal-at4 .ensures) (c .before .before .before .if4 .left)
+    ∙ ap (λ v. asLeading (atMost (a .most) (some v)) (n .choose2 .result)) (n .before .choose .ensures)
+    ∙ part-more (now (a .text)) (a .most) (d .decimal-at .result) (d .decimal-at .ensures) (omega arith) (e .decimal-at2 .result) (e .decimal-at2 .ensures) (omega arith) (omega arith) (f .decimal-at3 .result) (f .decimal-at3 .ensures) (n .choose2 .result) (n .choose2 .ensures) (omega (arith, c .before .before .decimal-at4 .ensures))
 
 pub leading-part-spec : {M : Type 1} → statement M
 leading-part-spec =
@@ -113,9 +109,6 @@ leading-part-spec =
     returns-2
     returns-3
     decimal-at-requires-3
-    decimal-at-requires-4
-    add-if4
-    returns-4
     cast-two
     mul-two
     cast-two-2
@@ -125,6 +118,8 @@ leading-part-spec =
     add-choose
     choose-requires
     choose-requires-2
-    cast-at-most-2
+    cast-count
+    decimal-at-requires-4
+    returns-4
     at-most-requires-2
     returns-5)
