@@ -17,28 +17,7 @@ use Rattle.classes.specs.Classes.{splitAnswer}
 use Rattle.blocks.specs.BlockText.{blockTextAnswer, blockText}
 use Rattle.ranges.specs.Ranges.{rangeAnswer, rangeLeaves}
 use Rattle.words.specs.Words.{wordsText, wordsReasons}
-use Rattle.nibharrow.specs.declared.Written.{Written}
-use Rattle.nibharrow.specs.declared.NetworkRead.{NetworkRead}
-use Rattle.nibharrow.specs.declared.NetworkHost.{NetworkHost}
-use Rattle.nibharrow.specs.declared.BlockRead.{BlockRead}
-use Rattle.nibharrow.specs.declared.RangeWritten.{RangeWritten}
-
--- ---- each answer of the interface in the paper's terms: the refusal's number first, then the fields
-
-abbrev pub writtenAnswer : Written → Answer ℕ
-writtenAnswer r = record { number = r .refusal; fields = r .bytes }
-
-abbrev pub networkReadAnswer : NetworkRead → Answer (ℕ × ℕ)
-networkReadAnswer r = record { number = r .refusal; fields = (r .size, r .bytes) }
-
-abbrev pub networkHostAnswer : NetworkHost → Answer (ℕ × ℕ)
-networkHostAnswer r = record { number = r .refusal; fields = (r .network, r .host) }
-
-abbrev pub blockReadAnswer : BlockRead → Answer (ℕ × ℕ)
-blockReadAnswer r = record { number = r .refusal; fields = (r .length, r .bytes) }
-
-abbrev pub rangeWrittenAnswer : RangeWritten → Answer (ℕ × ℕ)
-rangeWrittenAnswer r = record { number = r .refusal; fields = (r .blocks, r .bytes) }
+use Rattle.c_answers.specs.CAnswers.{besides}
 
 -- ---- outcomes
 
@@ -89,10 +68,6 @@ networkWritten bytes size old = andThen 0 old (octetsAnswer bytes) (λ a. networ
 -- `nibharrow_split`
 unfoldable pub octetsSplit : List ℕ → Answer (ℕ × ℕ)
 octetsSplit bytes = whenGiven (refusedBy (0, 0)) (octetsAnswer bytes) splitAnswer
-
--- a number, and what a writer answers
-abbrev pub besides : ℕ → Answer ℕ → Answer (ℕ × ℕ)
-besides n a = answer (0, 0) (a .number) (n, a .fields)
 
 -- `nibharrow_read_block`: the length, and the address in the buffer
 unfoldable pub blockInto : List ℕ → List ℕ → Outcome (ℕ × ℕ)

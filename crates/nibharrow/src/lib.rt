@@ -1,25 +1,34 @@
 // The C interface: each call of the library, with addresses as octets in network order.
 ghost use mathlib.Core.Path.{_≡_};
-ghost use Prim.Native.Nat.{min};
-ghost use Rattle.address.specs.Answers.{refuses, readingAnswer, writingAnswer};
+ghost use Rattle.address.specs.Answers.{readingAnswer};
 ghost use Rattle.text.specs.Strict.{strictAnswer};
 ghost use Rattle.loose.specs.Loose.{looseAnswer};
-ghost use Rattle.classes.specs.Classes.{splittingAnswer, joinAnswer};
-ghost use Rattle.nibharrow.specs.Interface.{outcome, writtenAnswer, networkReadAnswer, networkHostAnswer, blockReadAnswer, rangeWrittenAnswer, addressInto, addressWritten, networkInto, networkWritten, octetsSplit, blockInto, blockWritten, rangeTo, rangeInto, wordsInto, besides};
-ghost use Rattle.ranges.specs.Ranges.{rangeWritingAnswer};
+ghost use Rattle.classes.specs.Classes.{joinAnswer};
+ghost use Rattle.c_answers.specs.CAnswers.{writtenAnswer, networkReadAnswer, networkHostAnswer, blockReadAnswer, rangeWrittenAnswer};
+ghost use Rattle.nibharrow.specs.Interface.{outcome, addressInto, addressWritten, networkInto, networkWritten, octetsSplit, blockInto, blockWritten, rangeTo, rangeInto, wordsInto};
 use address::Address;
 use address::Block;
 use address::BlockReading;
 use address::Reading;
-use address::Refusal;
 use address::Writing;
 use blocks::read_block;
 use blocks::write_block;
+use c_answers::BlockRead;
+use c_answers::NetworkHost;
+use c_answers::NetworkRead;
+use c_answers::RangeWritten;
+use c_answers::Written;
+use c_answers::as_block_read;
+use c_answers::as_byte;
+use c_answers::as_network_host;
+use c_answers::as_network_read;
+use c_answers::as_range_written;
+use c_answers::as_written;
+use c_answers::refused;
 use classes::Splitting;
 use classes::join;
 use classes::split;
 use loose::read_loose;
-use network::NetworkReading;
 use network::read_network;
 use network_text::write_network;
 use normal::write_address;
@@ -30,65 +39,6 @@ use ranges::range_blocks;
 use text::read_address;
 use words::write_words;
 
-// Every answer has the refusal's number first, 0 for none; where it is not 0, every other field is.
-
-// How many bytes the call has written to the start of the lent buffer.
-#[repr(C)]
-pub struct Written {
-    pub refusal: u32,
-    pub bytes: usize,
-}
-
-// The size of a network, and how many of its bytes are at the start of the lent buffer.
-#[repr(C)]
-pub struct NetworkRead {
-    pub refusal: u32,
-    pub size: u32,
-    pub bytes: usize,
-}
-
-// The two numbers of an address of class A, B or C.
-#[repr(C)]
-pub struct NetworkHost {
-    pub refusal: u32,
-    pub network: u32,
-    pub host: u32,
-}
-
-// The length of a block, and how many bytes of its address are at the start of the lent buffer.
-#[repr(C)]
-pub struct BlockRead {
-    pub refusal: u32,
-    pub length: u32,
-    pub bytes: usize,
-}
-
-// How many records are at the start of the lent buffer, and how many bytes they fill.
-#[repr(C)]
-pub struct RangeWritten {
-    pub refusal: u32,
-    pub blocks: usize,
-    pub bytes: usize,
-}
-
-fn refused(e: Refusal) -> Written
-    ensures { λ r. ⌜ writtenAnswer r ≡ refuses 0 e ⌝ }
-{
-    Written {
-        refusal: e.number() as u32,
-        bytes: 0,
-    }
-}
-
-fn as_written(w: Writing) -> Written
-    ensures { λ r. ⌜ writtenAnswer r ≡ writingAnswer w ⌝ }
-{
-    match w {
-        Writing::Wrote(bytes) => Written { refusal: 0, bytes },
-        Writing::Refused(e) => refused(e),
-    }
-}
-
 // Puts the address that a reader answered at the start of `out`.
 fn put_reading(reading: Reading, out: &mut [u8]) -> Written
     ensures { λ r. ⌜ outcome (writtenAnswer r) (now (out .exit)) ≡ addressInto (readingAnswer reading) (now (out .entry)) ⌝ }
@@ -97,13 +47,6 @@ fn put_reading(reading: Reading, out: &mut [u8]) -> Written
         Reading::Read(a) => as_written(write_octets(a, out)),
         Reading::Refused(e) => refused(e),
     }
-}
-
-// A number that is too large for a byte becomes 255, which is as wrong a family, length or size.
-fn as_byte(n: u32) -> u8
-    ensures { λ r. ⌜ r ≡ min n 255 ⌝ }
-{
-    if 255 < n { 255 } else { n as u8 }
 }
 
 #[no_mangle]
@@ -141,18 +84,7 @@ pub extern "C" fn nibharrow_write_address(address: &[u8], out: &mut [u8]) -> Wri
 pub extern "C" fn nibharrow_read_network(text: &[u8], out: &mut [u8]) -> NetworkRead
     ensures { λ r. ⌜ outcome (networkReadAnswer r) (now (out .exit)) ≡ networkInto (now (text .entry)) (now (out .entry)) ⌝ }
 {
-    match read_network(text, out) {
-        NetworkReading::Read(size, bytes) => NetworkRead {
-            refusal: 0,
-            size: size as u32,
-            bytes,
-        },
-        NetworkReading::Refused(e) => NetworkRead {
-            refusal: e.number() as u32,
-            size: 0,
-            bytes: 0,
-        },
-    }
+    as_network_read(read_network(text, out))
 }
 
 #[no_mangle]
@@ -165,23 +97,6 @@ pub extern "C" fn nibharrow_write_network(address: &[u8], size: u32, out: &mut [
     }
 }
 
-fn as_network_host(s: Splitting) -> NetworkHost
-    ensures { λ r. ⌜ networkHostAnswer r ≡ splittingAnswer s ⌝ }
-{
-    match s {
-        Splitting::NetworkHost(network, host) => NetworkHost {
-            refusal: 0,
-            network,
-            host,
-        },
-        Splitting::Refused(e) => NetworkHost {
-            refusal: e.number() as u32,
-            network: 0,
-            host: 0,
-        },
-    }
-}
-
 #[no_mangle]
 pub extern "C" fn nibharrow_split(address: &[u8]) -> NetworkHost
     ensures { λ r. ⌜ networkHostAnswer r ≡ octetsSplit (now (address .entry)) ⌝ }
@@ -189,23 +104,6 @@ pub extern "C" fn nibharrow_split(address: &[u8]) -> NetworkHost
     match read_octets(address) {
         Reading::Read(a) => as_network_host(split(a)),
         Reading::Refused(e) => as_network_host(Splitting::Refused(e)),
-    }
-}
-
-fn as_block_read(length: u8, w: Writing) -> BlockRead
-    ensures { λ r. ⌜ blockReadAnswer r ≡ besides length (writingAnswer w) ⌝ }
-{
-    match w {
-        Writing::Wrote(bytes) => BlockRead {
-            refusal: 0,
-            length: length as u32,
-            bytes,
-        },
-        Writing::Refused(e) => BlockRead {
-            refusal: e.number() as u32,
-            length: 0,
-            bytes: 0,
-        },
     }
 }
 
@@ -235,23 +133,6 @@ pub extern "C" fn nibharrow_write_block(address: &[u8], length: u32, out: &mut [
             as_written(write_block(block, out))
         }
         Reading::Refused(e) => refused(e),
-    }
-}
-
-fn as_range_written(w: RangeWriting) -> RangeWritten
-    ensures { λ r. ⌜ rangeWrittenAnswer r ≡ rangeWritingAnswer w ⌝ }
-{
-    match w {
-        RangeWriting::Wrote(blocks, bytes) => RangeWritten {
-            refusal: 0,
-            blocks,
-            bytes,
-        },
-        RangeWriting::Refused(e) => RangeWritten {
-            refusal: e.number() as u32,
-            blocks: 0,
-            bytes: 0,
-        },
     }
 }
 

@@ -1,7 +1,8 @@
 -- `nibharrow::nibharrow_read_block` meets its contract. Assumes nothing.
 use mathlib.Core.Path.{refl, sym, ap, _∙_}
 use Rattle.address.specs.Answers.{noBlock, blockAnswer}
-use Rattle.nibharrow.specs.Interface.{besides, blockInto}
+use Rattle.c_answers.specs.CAnswers.{besides}
+use Rattle.nibharrow.specs.Interface.{blockInto}
 use Rattle.nibharrow.proofs.InterfaceLaws.{both, when-given, when-refused, refused-besides}
 use borrow.Author.Needs.{needs}
 use Rattle.nibharrow.proofs.nibharrow_read_block.Statement.{statement}

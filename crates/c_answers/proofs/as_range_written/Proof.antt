@@ -1,9 +1,9 @@
--- `nibharrow::as_range_written` meets its contract. Assumes nothing.
+-- `c_answers::as_range_written` meets its contract. Assumes nothing.
 use mathlib.Core.Path.{sym, ap, _∙_}
 use Rattle.ranges.specs.Ranges.{rangeWritingAnswer}
 use borrow.Author.Needs.{needs}
-use Rattle.nibharrow.proofs.as_range_written.Statement.{statement}
-use Rattle.nibharrow.proofs.as_range_written.Tie as tie
+use Rattle.c_answers.proofs.as_range_written.Statement.{statement}
+use Rattle.c_answers.proofs.as_range_written.Tie as tie
 
 enum-known-w : tie.Need-enum-known-w
 enum-known-w c = search needs

@@ -1,11 +1,11 @@
--- `nibharrow::as_block_read` meets its contract. Assumes nothing.
+-- `c_answers::as_block_read` meets its contract. Assumes nothing.
 use mathlib.Core.Path.{sym, ap, _∙_}
 use Rattle.address.specs.Answers.{writingAnswer}
 use Rattle.address.proofs.AnswerLaws.{nonzero}
-use Rattle.nibharrow.specs.Interface.{besides}
+use Rattle.c_answers.specs.CAnswers.{besides}
 use borrow.Author.Needs.{needs}
-use Rattle.nibharrow.proofs.as_block_read.Statement.{statement}
-use Rattle.nibharrow.proofs.as_block_read.Tie as tie
+use Rattle.c_answers.proofs.as_block_read.Statement.{statement}
+use Rattle.c_answers.proofs.as_block_read.Tie as tie
 
 enum-known-w : tie.Need-enum-known-w
 enum-known-w c = search needs

@@ -1,8 +1,8 @@
--- `nibharrow::as_byte` meets its contract. Assumes nothing.
+-- `c_answers::as_byte` meets its contract. Assumes nothing.
 use native.Mathlib.Omega.{arith}
 use borrow.Author.Needs.{needs}
-use Rattle.nibharrow.proofs.as_byte.Statement.{statement}
-use Rattle.nibharrow.proofs.as_byte.Tie as tie
+use Rattle.c_answers.proofs.as_byte.Statement.{statement}
+use Rattle.c_answers.proofs.as_byte.Tie as tie
 
 cast-result : tie.Need-cast-result
 cast-result c = search needs

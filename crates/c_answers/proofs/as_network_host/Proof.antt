@@ -1,9 +1,9 @@
--- `nibharrow::as_network_host` meets its contract. Assumes nothing.
+-- `c_answers::as_network_host` meets its contract. Assumes nothing.
 use mathlib.Core.Path.{sym, ap, _∙_}
 use Rattle.classes.specs.Classes.{splittingAnswer}
 use borrow.Author.Needs.{needs}
-use Rattle.nibharrow.proofs.as_network_host.Statement.{statement}
-use Rattle.nibharrow.proofs.as_network_host.Tie as tie
+use Rattle.c_answers.proofs.as_network_host.Statement.{statement}
+use Rattle.c_answers.proofs.as_network_host.Tie as tie
 
 enum-known-s : tie.Need-enum-known-s
 enum-known-s c = search needs
