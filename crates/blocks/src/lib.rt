@@ -12,11 +12,11 @@ use address::Refusal;
 use address::Writing;
 use digits::read::Leading;
 use digits::read::find;
-use digits::read::whole_part;
 use normal::put_address;
 use output::put;
 use output::put_decimal;
 use output::store;
+use parts::whole_part;
 use text::read_address;
 
 // The block of a text of either family.

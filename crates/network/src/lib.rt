@@ -12,11 +12,11 @@ use address::Refusal;
 use address::Writing;
 use digits::read::Leading;
 use digits::read::find;
-use digits::read::whole_part;
 use given::Given;
 use given::read_given;
 use octets::bytes::write_octets;
 use output::store;
+use parts::whole_part;
 
 // What the reader answers: the size in bits, and how many bytes are at the start of the lent buffer.
 pub enum NetworkReading {

@@ -3,7 +3,7 @@ use mathlib.Core.Path.{sym, _∙_}
 use native.Mathlib.Omega.{arith}
 use borrow.Author.Needs.{needs}
 use denote.Ref.{now}
-use Rattle.digits.proofs.PartLaws.{group-nothing, group-long, group-number}
+use Rattle.digits.proofs.GroupLaws.{group-nothing, group-long, group-number}
 use Rattle.digits.proofs.read.leading_group.Statement.{statement}
 use Rattle.digits.proofs.read.leading_group.Tie as tie
 

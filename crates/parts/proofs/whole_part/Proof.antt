@@ -1,12 +1,12 @@
--- `digits::read::whole_part` meets its contract. Assumes nothing.
+-- `parts::whole_part` meets its contract. Assumes nothing.
 use mathlib.Core.Path.{sym, _∙_}
 use native.Mathlib.Omega.{arith}
 use borrow.Author.Needs.{needs}
 use denote.Ref.{now}
 use Rattle.digits.specs.Numerals.{partOf}
 use Rattle.digits.proofs.PieceLaws.{part-reads, whole-nothing, whole-short, whole-number}
-use Rattle.digits.proofs.read.whole_part.Statement.{statement}
-use Rattle.digits.proofs.read.whole_part.Tie as tie
+use Rattle.parts.proofs.whole_part.Statement.{statement}
+use Rattle.parts.proofs.whole_part.Tie as tie
 
 leading-part-requires : tie.Need-leading-part-requires
 leading-part-requires c κs = search needs

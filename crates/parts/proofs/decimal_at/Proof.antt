@@ -1,10 +1,10 @@
--- `digits::read::decimal_at` meets its contract. Assumes nothing.
+-- `parts::decimal_at` meets its contract. Assumes nothing.
 use native.Mathlib.Omega.{arith}
 use borrow.Author.Needs.{needs}
 use denote.Ref.{now}
-use Rattle.digits.proofs.PartLaws.{decimal-end, decimal-digit, decimal-below, decimal-above}
-use Rattle.digits.proofs.read.decimal_at.Statement.{statement}
-use Rattle.digits.proofs.read.decimal_at.Tie as tie
+use Rattle.parts.proofs.PartLaws.{decimal-end, decimal-digit, decimal-below, decimal-above}
+use Rattle.parts.proofs.decimal_at.Statement.{statement}
+use Rattle.parts.proofs.decimal_at.Tie as tie
 
 returns : tie.Need-returns
 returns c = let a = c .before .args in decimal-end (now (a .text)) (a .at) (omega arith)

@@ -1,13 +1,13 @@
--- `digits::read::leading_part` meets its contract. Assumes nothing.
+-- `parts::leading_part` meets its contract. Assumes nothing.
 use mathlib.Core.Path.{ap, _∙_}
 use mathlib.Core.Option.{some}
 use native.Mathlib.Omega.{arith}
 use borrow.Author.Needs.{needs}
 use denote.Ref.{now}
 use Rattle.digits.specs.Numerals.{atMost, asLeading}
-use Rattle.digits.proofs.PartLaws.{part-none, part-one, part-zero, part-four, part-more}
-use Rattle.digits.proofs.read.leading_part.Statement.{statement}
-use Rattle.digits.proofs.read.leading_part.Tie as tie
+use Rattle.parts.proofs.PartLaws.{part-none, part-one, part-zero, part-four, part-more}
+use Rattle.parts.proofs.leading_part.Statement.{statement}
+use Rattle.parts.proofs.leading_part.Tie as tie
 
 decimal-at-requires : tie.Need-decimal-at-requires
 decimal-at-requires c κs = search needs

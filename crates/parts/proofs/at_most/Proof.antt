@@ -1,8 +1,8 @@
--- `digits::read::at_most` meets its contract. Assumes nothing.
+-- `parts::at_most` meets its contract. Assumes nothing.
 use native.Mathlib.Omega.{arith}
 use borrow.Author.Tests.{lt-leb, le-leb}
-use Rattle.digits.proofs.read.at_most.Statement.{statement}
-use Rattle.digits.proofs.read.at_most.Tie as tie
+use Rattle.parts.proofs.at_most.Statement.{statement}
+use Rattle.parts.proofs.at_most.Tie as tie
 
 returns : tie.Need-returns
 returns c = rw (lt-leb (c .before .args .value) (c .before .args .most) (omega arith))

@@ -1,0 +1,2 @@
+-- PartLaws: decimal parts at the start of a text.
+pub mod PartLaws
