@@ -1,36 +1,38 @@
 -- The bytes that a text gives before the slash, and the number that they write with zeros behind them. Assumes nothing.
 use mathlib.Core.Path.{_≡_, refl, sym, ap, ap₂, subst, _∙_}
-use mathlib.Core.Bool.{Bool, true, false, cond, _&&_, and-eq-true-iff}
+use mathlib.Core.Bool.{Bool, true, false, cond, _&&_, _||_, and-eq-true-iff}
 use mathlib.Core.List.{List, [], _∷_, _++_, map}
 use mathlib.Core.Option.{Option, some, none}
 use Prim.Native.Nat.{ℕ, zero, suc, _+_, _-_, _*_, _/_, _%_, _^_, _≤_, _<_}
 use native.Mathlib.Nat.{add-zero, pow-le-pow-right}
+use native.Mathlib.Decide.{decLe}
 use native.Mathlib.Omega.{arith}
-use borrow.Author.Tests.{le-leb, leb-true}
-use lib.Dec.{leb}
-use lib.ListN.{length, drop, replicate, length-append, length-replicate, length-map}
+use borrow.Author.Tests.{le-leb, lt-leb, leb-true, eqb-true, eqb-false}
+use lib.Dec.{leb, eqb, lit≤}
+use lib.ListN.{length, take, drop, getD, replicate, length-append, length-replicate, length-map}
 use lib.Pow.{shl-exact}
+use lib.Seq.{length-take-le}
 use Rattle.octets.specs.BigEndian.{AllBelow, numberFrom, numberOf}
 use Rattle.octets.proofs.DigitLaws.{number-append, number-lt, bits-power, zeros-number}
 use Rattle.digits.specs.declared.read.Leading.the-variants.{Number, Nothing}
+use Rattle.digits.specs.Pieces.{indexOf}
 use Rattle.digits.specs.Numerals.{within, digitOf, allDigits, textNumber, boundedNumber, hexMarked, leading}
 use Rattle.digits.proofs.NumeralLaws.{Digits, read-number, read-digits, number-bound, digit-values}
-use Rattle.digits.proofs.PieceLaws.{at-most-says, bounded-reads, whole-nothing, whole-short, whole-number}
+use Rattle.digits.proofs.PieceLaws.{index-le, at-most-says, bounded-reads, piece-nothing, piece-last, piece-more, piece-other}
 use Rattle.dotted.specs.declared.Parts.the-variants.{Numbers, NotParts}
 use Rattle.dotted.specs.Dotted.{partsOf, asParts}
 use Rattle.dotted.proofs.DottedLaws.{Octets, numbers-says, not-parts-says, parts-are}
 use Rattle.given.specs.declared.Given.the-variants.{Bytes, NotGiven}
-use Rattle.given.specs.GivenBytes.{asGiven}
-use Rattle.given.specs.GivenBytes.{halfBytes, hexBytes, givenOf, zeroFilled}
+use Rattle.given.specs.GivenBytes.{halfBytes, hexBytes, givenOf, zeroFilled, beforeSlash, asGiven}
 
 -- what an answer says of the definition
-pub bytes-says : (o : Option (List ℕ)) (v n : ℕ) → Bytes v n ≡ asGiven o → (bs : List ℕ) × (o ≡ some bs) × (v ≡ numberOf 256 (zeroFilled 4 bs)) × (n ≡ length bs)
-bytes-says none v n e = let z : _≡_ {A = ℕ} 0 1 = cc in absurd (omega arith)
-bytes-says (some bs) v n e = (bs, refl, cc, cc)
+pub bytes-says : (o : Option (List ℕ)) (at v n k : ℕ) → Bytes v n k ≡ asGiven o at → (bs : List ℕ) × (o ≡ some bs) × (v ≡ numberOf 256 (zeroFilled 4 bs)) × (n ≡ length bs) × (k ≡ at)
+bytes-says none at v n k e = let z : _≡_ {A = ℕ} 0 1 = cc in absurd (omega arith)
+bytes-says (some bs) at v n k e = (bs, refl, cc, cc, cc)
 
-pub not-given-says : (o : Option (List ℕ)) → NotGiven ≡ asGiven o → o ≡ none
-not-given-says none e = refl
-not-given-says (some bs) e = let z : _≡_ {A = ℕ} 0 1 = cc in absurd (omega arith)
+pub not-given-says : (o : Option (List ℕ)) (at : ℕ) → NotGiven ≡ asGiven o at → o ≡ none
+not-given-says none at e = refl
+not-given-says (some bs) at e = let z : _≡_ {A = ℕ} 0 1 = cc in absurd (omega arith)
 
 -- ---- digits with zeros behind them, as a shift
 
@@ -131,8 +133,8 @@ module _ (t : List ℕ) where
       go false e k = let z : _≡_ {A = ℕ} 0 1 = cc in absurd (omega arith)
 
   -- eight digits write no more than 32 bits
-  hex-none : boundedNumber 16 4294967295 t ≡ none → NotGiven ≡ asGiven (hexBytes t)
-  hex-none e = sym (ap asGiven (hex-else clash))
+  hex-none : boundedNumber 16 4294967295 t ≡ none → hexBytes t ≡ none
+  hex-none e = hex-else clash
     where
       clash : Digits 16 t → length t ≤ 8 → ⊥
       clash d h =
@@ -143,9 +145,9 @@ module _ (t : List ℕ) where
           let z : _≡_ {A = ℕ} 0 1 = cc in
           omega arith
 
-  hex-some : (v : ℕ) → textNumber 16 t ≡ some v → length t ≤ 8 → Bytes (v * 2 ^ (32 - 4 * length t) % 2 ^ 32) ((length t + 1) / 2) ≡ asGiven (hexBytes t)
+  hex-some : (v at : ℕ) → textNumber 16 t ≡ some v → length t ≤ 8 → Bytes (v * 2 ^ (32 - 4 * length t) % 2 ^ 32) ((length t + 1) / 2) at ≡ asGiven (hexBytes t) at
   unfolding hexBytes
-  hex-some v e h =
+  hex-some v at e h =
       let d = read-digits 16 t v e in
       let ds = map digitOf t in
       let long = length-map t digitOf in
@@ -153,39 +155,64 @@ module _ (t : List ℕ) where
       let value = halves-shifted ds (digit-values 16 t (d .all)) (omega arith) in
       rw (le-leb 1 (length t) (d .any), le-leb (length t) 8 h, d .all, halves-length ds, ← value, is, long)
 
-  pub hex-nothing : Nothing ≡ leading 16 (boundedNumber 16 4294967295) t → NotGiven ≡ asGiven (hexBytes t)
-  hex-nothing h = hex-none (whole-nothing 16 (boundedNumber 16 4294967295) (bounded-reads 16 4294967295) t h)
+-- the digits before the slash, which is no digit
+module _ (t : List ℕ) where
+  abbrev Read : ℕ → ℕ → Type 0
+  Read v n = Number v n ≡ leading 16 (boundedNumber 16 4294967295) t
 
-  module _ (v n : ℕ) (h : Number v n ≡ leading 16 (boundedNumber 16 4294967295) t) where
-    pub hex-short : n < length t → NotGiven ≡ asGiven (hexBytes t)
-    hex-short l = hex-none (whole-short 16 (boundedNumber 16 4294967295) (bounded-reads 16 4294967295) t v n h l)
+  slash-none : 16 ≤ digitOf 47
+  unfolding digitOf
+  slash-none = lit≤ tt
 
-    -- all of the text are digits
-    module _ (l : length t ≤ n) where
-      whole : (textNumber 16 t ≡ some v) × (n ≡ length t)
-      whole = let w = whole-number 16 (boundedNumber 16 4294967295) (bounded-reads 16 4294967295) t v n h l in (at-most-says 4294967295 v (textNumber 16 t) (w .0) .0, w .1)
+  pub hex-nothing : Nothing ≡ leading 16 (boundedNumber 16 4294967295) t → NotGiven ≡ asGiven (hexBytes (beforeSlash t)) (indexOf 47 t)
+  hex-nothing h = sym (ap (λ o. asGiven o (indexOf 47 t)) (hex-none (beforeSlash t) (piece-nothing 16 47 slash-none (boundedNumber 16 4294967295) (bounded-reads 16 4294967295) t h)))
+
+  module _ (v n : ℕ) (h : Read v n) where
+    pub hex-short : (leb (length t) n || eqb (getD t n 0) 47) ≡ false → NotGiven ≡ asGiven (hexBytes (beforeSlash t)) (indexOf 47 t)
+    hex-short e = elim (decLe (length t) n) [
+      | yes l ↦ let no : true ≡ false = rw (le-leb (length t) n l) at e in let z : _≡_ {A = ℕ} 0 1 = cc in absurd (omega arith)
+      | no l ↦
+          let other = eqb-false (getD t n 0) 47 (rw (lt-leb (length t) n (omega arith)) at e) in
+          sym (ap (λ o. asGiven o (indexOf 47 t)) (hex-none (beforeSlash t) (piece-other 16 47 slash-none (boundedNumber 16 4294967295) (bounded-reads 16 4294967295) t v n h (omega arith) other)))
+    ]
+
+    -- all that is before the slash are digits
+    module _ (e : (leb (length t) n || eqb (getD t n 0) 47) ≡ true) where
+      piece : (boundedNumber 16 4294967295 (beforeSlash t) ≡ some v) × (indexOf 47 t ≡ n)
+      piece = elim (decLe (length t) n) [
+        | yes l ↦ piece-last 16 47 slash-none (boundedNumber 16 4294967295) (bounded-reads 16 4294967295) t v n h l
+        | no l ↦ piece-more 16 47 slash-none (boundedNumber 16 4294967295) (bounded-reads 16 4294967295) t v n h (omega arith) (eqb-true (getD t n 0) 47 (rw (lt-leb (length t) n (omega arith)) at e))
+      ]
+
+      whole : textNumber 16 (beforeSlash t) ≡ some v
+      whole = at-most-says 4294967295 v (textNumber 16 (beforeSlash t)) (piece .0) .0
+
+      long : length (beforeSlash t) ≡ n
+      long = length-take-le (indexOf 47 t) t (index-le 47 t) ∙ piece .1
 
       pub hex-any : 1 ≤ n
-      hex-any = omega (arith, whole .1, read-digits 16 t v (whole .0) .any)
+      hex-any = omega (arith, long, read-digits 16 (beforeSlash t) v whole .any)
 
-      pub hex-long : 8 < n → NotGiven ≡ asGiven (hexBytes t)
-      hex-long k = sym (ap asGiven (hex-else (λ d m. omega (arith, whole .1))))
+      pub hex-long : 8 < n → NotGiven ≡ asGiven (hexBytes (beforeSlash t)) (indexOf 47 t)
+      hex-long k = sym (ap (λ o. asGiven o (indexOf 47 t)) (hex-else (beforeSlash t) (λ d m. omega (arith, long))))
 
-      pub hex-number : n ≤ 8 → Bytes (v * 2 ^ (32 - 4 * n) % 2 ^ 32) ((n + 1) / 2) ≡ asGiven (hexBytes t)
-      hex-number k = rw (whole .1) (hex-some v (whole .0) (omega (arith, whole .1)))
+      pub hex-number : n ≤ 8 → Bytes (v * 2 ^ (32 - 4 * n) % 2 ^ 32) ((n + 1) / 2) n ≡ asGiven (hexBytes (beforeSlash t)) (indexOf 47 t)
+      hex-number k =
+          ap₂ (λ (m i : ℕ). Bytes (v * 2 ^ (32 - 4 * m) % 2 ^ 32) ((m + 1) / 2) i) (sym long) (sym (piece .1))
+          ∙ hex-some (beforeSlash t) v (indexOf 47 t) whole (omega (arith, long))
 
 -- ---- decimal parts
 
-module _ (t : List ℕ) where
-  pub parts-nothing : NotParts ≡ asParts (partsOf t) → NotGiven ≡ asGiven (partsOf t)
-  parts-nothing h = sym (ap asGiven (not-parts-says (partsOf t) h))
+module _ (t : List ℕ) (at : ℕ) where
+  pub parts-nothing : NotParts ≡ asParts (partsOf t) → NotGiven ≡ asGiven (partsOf t) at
+  parts-nothing h = sym (ap (λ o. asGiven o at) (not-parts-says (partsOf t) h))
 
-  parts-some : (xs : List ℕ) → partsOf t ≡ some xs → Bytes (numberOf 256 xs * 2 ^ (32 - 8 * length xs) % 2 ^ 32) (length xs) ≡ asGiven (partsOf t)
+  parts-some : (xs : List ℕ) → partsOf t ≡ some xs → Bytes (numberOf 256 xs * 2 ^ (32 - 8 * length xs) % 2 ^ 32) (length xs) at ≡ asGiven (partsOf t) at
   unfolding zeroFilled
   parts-some xs e =
       let o = parts-are t xs e .octets in
       let most = o .most in
-      rw e (ap (λ (v : ℕ). Bytes v (length xs)) (shifted 8 32 (32 - 8 * length xs) (4 - length xs) xs (o .small) (omega arith) (omega arith)))
+      rw e (ap (λ (v : ℕ). Bytes v (length xs) at) (shifted 8 32 (32 - 8 * length xs) (4 - length xs) xs (o .small) (omega arith) (omega arith)))
 
   module _ (v n : ℕ) (h : Numbers v n ≡ asParts (partsOf t)) where
     pub parts-count : (1 ≤ n) × (n ≤ 4)
@@ -194,22 +221,70 @@ module _ (t : List ℕ) where
         let o = parts-are t (s .0) (s .1) .octets in
         (omega (arith, s .3, o .any), omega (arith, s .3, o .most))
 
-    pub parts-number : Bytes (v * 2 ^ (32 - 8 * n) % 2 ^ 32) n ≡ asGiven (partsOf t)
-    parts-number = let s = numbers-says (partsOf t) v n h in ap₂ (λ (x k : ℕ). Bytes (x * 2 ^ (32 - 8 * k) % 2 ^ 32) k) (s .2) (s .3) ∙ parts-some (s .0) (s .1)
+    pub parts-number : Bytes (v * 2 ^ (32 - 8 * n) % 2 ^ 32) n at ≡ asGiven (partsOf t) at
+    parts-number = let s = numbers-says (partsOf t) v n h in ap₂ (λ (x k : ℕ). Bytes (x * 2 ^ (32 - 8 * k) % 2 ^ 32) k at) (s .2) (s .3) ∙ parts-some (s .0) (s .1)
 
 -- ---- either of them
 
-pub given-hex : (t : List ℕ) → hexMarked t ≡ true → givenOf t ≡ hexBytes (drop 2 t)
-unfolding givenOf
-given-hex t h = rw h
+-- the mark is before the slash
+marked-before : (t : List ℕ) → hexMarked (beforeSlash t) ≡ hexMarked t
+unfolding hexMarked indexOf
+marked-before [] = refl
+marked-before (c ∷ []) = elim (eqb c 47) as (λ b. hexMarked (take (cond b 0 1) (c ∷ [])) ≡ false) [ true ↦ refl | false ↦ refl ]
+marked-before (c ∷ d ∷ t) = go (eqb c 47) (eqb d 47) refl refl
+  where
+    go : (p q : Bool) → eqb c 47 ≡ p → eqb d 47 ≡ q → hexMarked (take (cond p 0 (suc (cond q 0 (suc (indexOf 47 t))))) (c ∷ d ∷ t)) ≡ (eqb c 48 && (eqb d 120 || eqb d 88))
+    go true q e f = let is = eqb-true c 47 e in rw is
+    go false true e f = let is = eqb-true d 47 f in rw is (elim (eqb c 48) as (λ b. false ≡ (b && false)) [ true ↦ refl | false ↦ refl ])
+    go false false e f = refl
 
-pub given-parts : (t : List ℕ) → hexMarked t ≡ false → givenOf t ≡ partsOf t
-unfolding givenOf
-given-parts t h = rw h
+-- and the slash behind it
+marked-slash : (t : List ℕ) → hexMarked t ≡ true → (indexOf 47 t ≡ suc (suc (indexOf 47 (drop 2 t)))) × (drop 2 (beforeSlash t) ≡ beforeSlash (drop 2 t))
+unfolding hexMarked indexOf
+marked-slash [] e = let z : _≡_ {A = ℕ} 0 1 = cc in absurd (omega arith)
+marked-slash (c ∷ []) e = let z : _≡_ {A = ℕ} 0 1 = cc in absurd (omega arith)
+marked-slash (c ∷ d ∷ t) e = go (eqb c 47) (eqb d 47) refl refl
+  where
+    mark : (eqb c 48 ≡ true) × ((eqb d 120 || eqb d 88) ≡ true)
+    mark = and-eq-true-iff (eqb c 48) (eqb d 120 || eqb d 88) .0 e
+
+    go : (p q : Bool) → eqb c 47 ≡ p → eqb d 47 ≡ q
+        → (cond p 0 (suc (cond q 0 (suc (indexOf 47 t)))) ≡ suc (suc (indexOf 47 t)))
+        × (drop 2 (take (cond p 0 (suc (cond q 0 (suc (indexOf 47 t))))) (c ∷ d ∷ t)) ≡ take (indexOf 47 t) t)
+    go true q f g = absurd (omega (arith, eqb-true c 47 f, eqb-true c 48 (mark .0)))
+    go false true f g = let no : false ≡ true = rw (eqb-true d 47 g) at (mark .1) in let z : _≡_ {A = ℕ} 0 1 = cc in absurd (omega arith)
+    go false false f g = (refl, refl)
+
+module _ (t : List ℕ) where
+  module _ (m : hexMarked t ≡ true) where
+    given-hex : givenOf (beforeSlash t) ≡ hexBytes (beforeSlash (drop 2 t))
+    unfolding givenOf
+    given-hex = rw (marked-before t, m) (ap hexBytes (marked-slash t m .1))
+
+    pub hex-not-given : NotGiven ≡ asGiven (hexBytes (beforeSlash (drop 2 t))) (indexOf 47 (drop 2 t)) → NotGiven ≡ asGiven (givenOf (beforeSlash t)) (indexOf 47 t)
+    hex-not-given h = sym (ap (λ o. asGiven o (indexOf 47 t)) (given-hex ∙ not-given-says (hexBytes (beforeSlash (drop 2 t))) (indexOf 47 (drop 2 t)) h))
+
+    module _ (v n k : ℕ) (h : Bytes v n k ≡ asGiven (hexBytes (beforeSlash (drop 2 t))) (indexOf 47 (drop 2 t))) where
+      says : (bs : List ℕ) × (hexBytes (beforeSlash (drop 2 t)) ≡ some bs) × (v ≡ numberOf 256 (zeroFilled 4 bs)) × (n ≡ length bs) × (k ≡ indexOf 47 (drop 2 t))
+      says = bytes-says (hexBytes (beforeSlash (drop 2 t))) (indexOf 47 (drop 2 t)) v n k h
+
+      slash : k + 2 ≡ indexOf 47 t
+      slash = omega (arith, says .4, marked-slash t m .0)
+
+      pub slash-within : k + 2 ≤ length t
+      slash-within = omega (arith, slash, index-le 47 t)
+
+      pub hex-is-given : Bytes v n (k + 2) ≡ asGiven (givenOf (beforeSlash t)) (indexOf 47 t)
+      hex-is-given = (λ i. Bytes (says .2 i) (says .3 i) (slash i)) ∙ sym (ap (λ o. asGiven o (indexOf 47 t)) (given-hex ∙ says .1))
+
+  pub given-parts : hexMarked t ≡ false → givenOf (beforeSlash t) ≡ partsOf (beforeSlash t)
+  unfolding givenOf
+  given-parts h = rw (marked-before t, h)
 
 pub given-octets : (t bs : List ℕ) → givenOf t ≡ some bs → Octets bs
-given-octets t bs e = go (hexMarked t) refl
+unfolding givenOf
+given-octets t bs = go (hexMarked t)
   where
-    go : (b : Bool) → hexMarked t ≡ b → Octets bs
-    go true m = hex-given (drop 2 t) bs (sym (given-hex t m) ∙ e)
-    go false m = parts-are t bs (sym (given-parts t m) ∙ e) .octets
+    go : (b : Bool) → cond b (hexBytes (drop 2 t)) (partsOf t) ≡ some bs → Octets bs
+    go true e = hex-given (drop 2 t) bs e
+    go false e = parts-are t bs e .octets

@@ -3,9 +3,10 @@ use mathlib.Core.Bool.{cond, _&&_}
 use mathlib.Core.List.{List, [], _∷_, _++_, map}
 use mathlib.Core.Option.{Option, some, none}
 use Prim.Native.Nat.{ℕ, _+_, _-_, _*_}
-use lib.ListN.{length, drop, replicate}
+use lib.ListN.{length, take, drop, replicate}
 use Rattle.octets.specs.BigEndian.{numberOf}
 use Rattle.digits.specs.Numerals.{within, digitOf, allDigits, hexMarked}
+use Rattle.digits.specs.Pieces.{indexOf}
 use Rattle.dotted.specs.Dotted.{partsOf}
 use Rattle.given.specs.declared.Given.{Given}
 use Rattle.given.specs.declared.Given.the-variants.{Bytes, NotGiven}
@@ -30,7 +31,11 @@ givenOf t = cond (hexMarked t) (hexBytes (drop 2 t)) (partsOf t)
 unfoldable pub zeroFilled : ℕ → List ℕ → List ℕ
 zeroFilled n bs = bs ++ replicate (n - length bs) 0
 
--- the code's answer: the bytes given as the first octets of a number of 32 bits, and how many they are
-abbrev pub asGiven : Option (List ℕ) → Given
-asGiven none = NotGiven
-asGiven (some bs) = Bytes (numberOf 256 (zeroFilled 4 bs)) (length bs)
+-- the text before the first slash, which is all of it where there is none
+abbrev pub beforeSlash : List ℕ → List ℕ
+beforeSlash t = take (indexOf 47 t) t
+
+-- the code's answer: the bytes given as the first octets of a number of 32 bits, how many they are, and the place where they end
+abbrev pub asGiven : Option (List ℕ) → ℕ → Given
+asGiven none at = NotGiven
+asGiven (some bs) at = Bytes (numberOf 256 (zeroFilled 4 bs)) (length bs) at

@@ -28,8 +28,7 @@ use Rattle.digits.proofs.PieceLaws.{index-contains, index-lacks, as-number, as-
 use Rattle.digits.proofs.SliceLaws.{tail, to-end}
 use Rattle.dotted.proofs.DottedLaws.{Octets}
 use Rattle.given.specs.declared.Given.the-variants.{Bytes, NotGiven}
-use Rattle.given.specs.GivenBytes.{asGiven}
-use Rattle.given.specs.GivenBytes.{givenOf, zeroFilled}
+use Rattle.given.specs.GivenBytes.{givenOf, zeroFilled, beforeSlash, asGiven}
 use Rattle.network_text.specs.NetworkText.{sizeBytes}
 use Rattle.network.specs.Network.{Network, classSize, widened, inferredSize, completed, sized, networkOf, networkAnswer, networkLeaves}
 use Rattle.given.proofs.GivenLaws.{given-octets, bytes-says, not-given-says}
@@ -106,28 +105,20 @@ sized-none none = refl
 sized-none (some n) = refl
 
 module _ (t : List ℕ) (s : ℕ) (at : s ≡ indexOf 47 t) where
-  network-slash : s < length t → networkOf t ≡ sized (partOf 999 (tail (s + 1) t)) (givenOf (take s t))
+  network-slash : s < length t → networkOf t ≡ sized (partOf 999 (tail (s + 1) t)) (givenOf (beforeSlash t))
   unfolding networkOf
   network-slash l = rw (to-end (s + 1) t, add-one s, at, index-contains 47 t (omega arith))
 
-  network-whole : length t ≤ s → networkOf t ≡ sized (Option·map inferredSize (givenOf (take s t))) (givenOf (take s t))
+  network-whole : length t ≤ s → networkOf t ≡ sized (Option·map inferredSize (givenOf (beforeSlash t))) (givenOf (beforeSlash t))
   unfolding networkOf
-  network-whole l = rw (take-all s t l, index-lacks 47 t (omega arith))
-
-  network-not-given : NotGiven ≡ asGiven (givenOf (take s t)) → networkOf t ≡ none
-  network-not-given h =
-      let e = not-given-says (givenOf (take s t)) h in
-      elim (decLe (length t) s) [
-        | yes l ↦ network-whole l ∙ rw e
-        | no l ↦ network-slash (omega arith) ∙ rw e (sized-none (partOf 999 (tail (s + 1) t)))
-      ]
+  network-whole l = rw (take-all (indexOf 47 t) t (omega arith), index-lacks 47 t (omega arith))
 
   network-no-size : (k : ℕ) → s < length t → Nothing ≡ asLeading (partOf 999 (tail (s + 1) t)) k → networkOf t ≡ none
   network-no-size k l h = network-slash l ∙ rw (as-nothing (partOf 999 (tail (s + 1) t)) k h)
 
-  module _ (v n : ℕ) (h : Bytes v n ≡ asGiven (givenOf (take s t))) where
-    says : (bs : List ℕ) × (givenOf (take s t) ≡ some bs) × (v ≡ numberOf 256 (zeroFilled 4 bs)) × (n ≡ length bs)
-    says = bytes-says (givenOf (take s t)) v n h
+  module _ (v n : ℕ) (h : Bytes v n s ≡ asGiven (givenOf (beforeSlash t)) (indexOf 47 t)) where
+    says : (bs : List ℕ) × (givenOf (beforeSlash t) ≡ some bs) × (v ≡ numberOf 256 (zeroFilled 4 bs)) × (n ≡ length bs) × (s ≡ indexOf 47 t)
+    says = bytes-says (givenOf (beforeSlash t)) (indexOf 47 t) v n s h
 
     -- the bytes given
     given : List ℕ
@@ -135,7 +126,7 @@ module _ (t : List ℕ) (s : ℕ) (at : s ≡ indexOf 47 t) where
 
     are-bytes : Octets given
     unfolding given
-    are-bytes = given-octets (take s t) given (says .1)
+    are-bytes = given-octets (beforeSlash t) given (says .1)
 
     pub given-count : n ≤ 4
     unfolding given
@@ -162,6 +153,14 @@ module _ (t : List ℕ) (s : ℕ) (at : s ≡ indexOf 47 t) where
     network-length : (size : ℕ) → length (completed size given .bytes) ≡ max n (sizeBytes size)
     unfolding given completed
     network-length size = filled-length (max (length given) (sizeBytes size)) given (omega arith) ∙ ap (λ j. max j (sizeBytes size)) (sym (says .3))
+
+network-not-given : (t : List ℕ) → NotGiven ≡ asGiven (givenOf (beforeSlash t)) (indexOf 47 t) → networkOf t ≡ none
+network-not-given t h =
+    let e = not-given-says (givenOf (beforeSlash t)) (indexOf 47 t) h in
+    elim (decLe (length t) (indexOf 47 t)) [
+      | yes l ↦ network-whole t (indexOf 47 t) refl l ∙ rw e
+      | no l ↦ network-slash t (indexOf 47 t) refl (omega arith) ∙ rw e (sized-none (partOf 999 (tail (indexOf 47 t + 1) t)))
+    ]
 
 -- ---- what is answered
 
@@ -191,15 +190,19 @@ module _ (t old : List ℕ) where
           let f = le-ltb 32 (n .size) l in
           (rw (h, e, f), rw (h, e, f))
 
+pub none-given : (t old : List ℕ) → length t ≤ 64 → NotGiven ≡ asGiven (givenOf (beforeSlash t)) (indexOf 47 t) → (refuses (0, 0) Malformed ≡ networkAnswer t old) × (old ≡ networkLeaves t old)
+none-given t old short h = answer-malformed t old short (network-not-given t h)
+
+-- the place that the reader of the bytes given answers is the slash
+pub slash-at : (t : List ℕ) (v n s : ℕ) → Bytes v n s ≡ asGiven (givenOf (beforeSlash t)) (indexOf 47 t) → s ≡ indexOf 47 t
+slash-at t v n s h = bytes-says (givenOf (beforeSlash t)) (indexOf 47 t) v n s h .4
+
 -- what the reader has found: the slash, a text that is not too long, and the bytes given
 module _ (t : List ℕ) (s : ℕ) (at : s ≡ indexOf 47 t) (old : List ℕ) (short : length t ≤ 64) where
-  pub none-given : NotGiven ≡ asGiven (givenOf (take s t)) → (refuses (0, 0) Malformed ≡ networkAnswer t old) × (old ≡ networkLeaves t old)
-  none-given h = answer-malformed t old short (network-not-given t s at h)
-
   pub no-size : (k : ℕ) → s < length t → Nothing ≡ asLeading (partOf 999 (tail (s + 1) t)) k → (refuses (0, 0) Malformed ≡ networkAnswer t old) × (old ≡ networkLeaves t old)
   no-size k l h = answer-malformed t old short (network-no-size t s at k l h)
 
-  module _ (v n : ℕ) (h : Bytes v n ≡ asGiven (givenOf (take s t))) where
+  module _ (v n : ℕ) (h : Bytes v n s ≡ asGiven (givenOf (beforeSlash t)) (indexOf 47 t)) where
     -- as `store_network` answers it
     abbrev Stored : ℕ → Answer (ℕ × ℕ) → List ℕ → Type 0
     Stored size r new =

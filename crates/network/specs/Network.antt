@@ -4,11 +4,11 @@ use mathlib.Core.List.{List, [], _∷_}
 use mathlib.Core.Option.{Option, some, none, Option·map, Option·getD}
 use Prim.Native.Nat.{ℕ, suc, _*_, max}
 use lib.Dec.{leb, ltb}
-use lib.ListN.{length, take, drop, getD}
+use lib.ListN.{length, drop, getD}
 use Rattle.address.specs.Answers.{Answer, answer, gives, refuses, missing, refusal, writeRefusal, writeLeaves}
 use Rattle.digits.specs.Numerals.{partOf}
 use Rattle.digits.specs.Pieces.{contains, indexOf}
-use Rattle.given.specs.GivenBytes.{givenOf, zeroFilled}
+use Rattle.given.specs.GivenBytes.{givenOf, zeroFilled, beforeSlash}
 use Rattle.network_text.specs.NetworkText.{sizeBytes}
 use Rattle.network.specs.declared.NetworkReading.{NetworkReading}
 use Rattle.network.specs.declared.NetworkReading.the-variants.{Read, Refused}
@@ -50,7 +50,7 @@ unfoldable pub networkOf : List ℕ → Option Network
 unfolding givenOf inferredSize completed contains indexOf partOf
 networkOf t =
     cond (contains 47 t)
-    (sized (partOf 999 (drop (suc (indexOf 47 t)) t)) (givenOf (take (indexOf 47 t) t)))
+    (sized (partOf 999 (drop (suc (indexOf 47 t)) t)) (givenOf (beforeSlash t)))
     (sized (Option·map inferredSize (givenOf t)) (givenOf t))
 
 -- ---- reading

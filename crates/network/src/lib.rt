@@ -11,7 +11,6 @@ use address::Address;
 use address::Refusal;
 use address::Writing;
 use digits::read::Leading;
-use digits::read::find;
 use given::Given;
 use given::read_given;
 use octets::bytes::write_octets;
@@ -76,8 +75,7 @@ pub fn read_network(text: &[u8], out: &mut [u8]) -> NetworkReading
     if 64 < text.len() {
         return NetworkReading::Refused(Refusal::TextTooLong);
     }
-    let slash = find(text, b'/');
-    let Given::Bytes(value, count) = read_given(&text[..slash]) else {
+    let Given::Bytes(value, count, slash) = read_given(text) else {
         return NetworkReading::Refused(Refusal::Malformed);
     };
     if text.len() <= slash {

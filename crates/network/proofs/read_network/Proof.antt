@@ -4,24 +4,15 @@ use Prim.Native.Nat.{_≤_}
 use native.Mathlib.Omega.{arith}
 use borrow.Author.Needs.{needs}
 use denote.Ref.{now}
-use lib.ListN.{take}
-use lib.Seq.{length-take-le}
-use Rattle.digits.proofs.PieceLaws.{index-le}
+use Rattle.digits.specs.Pieces.{indexOf}
 use Rattle.given.specs.declared.Given.the-variants.{Bytes}
-use Rattle.given.specs.GivenBytes.{asGiven}
-use Rattle.given.specs.GivenBytes.{givenOf}
-use Rattle.network.proofs.NetworkLaws.{given-count, inferred-most, answer-long, none-given, no-size, inferred-stored, sized-large, sized-stored}
+use Rattle.given.specs.GivenBytes.{givenOf, beforeSlash, asGiven}
+use Rattle.network.proofs.NetworkLaws.{given-count, inferred-most, answer-long, none-given, slash-at, no-size, inferred-stored, sized-large, sized-stored}
 use Rattle.network.proofs.read_network.Statement.{statement}
 use Rattle.network.proofs.read_network.Tie as tie
 
 returns : tie.Need-returns
 returns c = answer-long _ _ (c .if1 .taken)
-
-find-requires : tie.Need-find-requires
-find-requires c κs = search needs
-
-slice-aggregate-read-given : tie.Need-slice-aggregate-read-given
-slice-aggregate-read-given c = let f = c .before in sym (length-take-le _ _ (omega (arith, f .find .ensures, index-le 47 (now (f .before .before .before .before .args .text)))))
 
 read-given-requires : tie.Need-read-given-requires
 read-given-requires c κs = search needs
@@ -33,19 +24,19 @@ enum-told : tie.Need-enum-told
 enum-told c = search needs
 
 returns-2 : tie.Need-returns-2
-returns-2 c =
-    let g = c .before .before in
-    let f = g .before .before in
-    none-given _ _ (f .find .ensures) _ (f .before .if1 .left) (sym (c .enum-told .given .1) ∙ g .read-given .ensures)
+returns-2 c = let g = c .before .before in none-given _ _ (g .before .if1 .left) (sym (c .enum-told .given .1) ∙ g .read-given .ensures)
 
--- the bytes given
-said : (c : tie.After-known-told)
-    → Bytes (c .before .value .given .0 .0) (c .before .value .given .0 .1 .0)
-    ≡ asGiven (givenOf (take (c .before .before .before .before .before .find .result) (now (c .before .before .before .before .before .before .before .before .before .args .text))))
+-- the bytes given, and the slash
+said : (c : tie.After-known-told) → let v = c .before in
+    let t = now (v .before .before .before .before .before .before .args .text) in
+    (Bytes (v .value .given .0 .0) (v .value .given .0 .1 .0) (v .value .given .0 .1 .1 .0) ≡ asGiven (givenOf (beforeSlash t)) (indexOf 47 t))
 said c = let v = c .before in sym (v .value .given .1) ∙ v .before .before .read-given .ensures
 
+slash : (c : tie.After-known-told) → c .before .value .given .0 .1 .1 .0 ≡ indexOf 47 (now (c .before .before .before .before .before .before .before .args .text))
+slash c = slash-at _ _ _ _ (said c)
+
 count : (c : tie.After-known-told) → c .before .value .given .0 .1 .0 ≤ 4
-count c = given-count _ _ (c .before .before .before .before .before .find .ensures) _ _ (said c)
+count c = given-count _ _ (slash c) _ _ (said c)
 
 cast-class-size : tie.Need-cast-class-size
 cast-class-size c = search needs
@@ -70,8 +61,8 @@ returns-3 c =
     let st = c .before .before in
     let w = st .before .before in
     let k = w .before .before .before in
-    let f = k .before .before .before .before .before in
-    inferred-stored _ _ (f .find .ensures) _ (f .before .if1 .left) _ _ (said k) _ _ (w .before .class-size .ensures) (w .widen .ensures) (w .before .before .if2 .taken) _ _ (st .store-network .ensures)
+    let f = k .before .before .before in
+    inferred-stored _ _ (slash k) _ (f .before .if1 .left) _ _ (said k) _ _ (w .before .class-size .ensures) (w .widen .ensures) (w .before .before .if2 .taken) _ _ (st .store-network .ensures)
 
 add-whole-part : tie.Need-add-whole-part
 add-whole-part c = search needs
@@ -98,8 +89,9 @@ returns-4 : tie.Need-returns-4
 returns-4 c =
     let p = c .before .before in
     let e = p .before .before in
-    let f = e .before .before .before .before .before .before in
-    no-size _ _ (f .find .ensures) _ (f .before .if1 .left) _ (e .if2 .left) (sym (c .enum-told2 .given .1) ∙ p .whole-part .ensures)
+    let k = e .before in
+    let f = k .before .before .before in
+    no-size _ _ (slash k) _ (f .before .if1 .left) _ (e .if2 .left) (sym (c .enum-told2 .given .1) ∙ p .whole-part .ensures)
 
 returns-5 : tie.Need-returns-5
 returns-5 c =
@@ -107,8 +99,8 @@ returns-5 c =
     let p = z .before .before in
     let e = p .before .before in
     let k = e .before in
-    let f = k .before .before .before .before .before in
-    sized-large _ _ (f .find .ensures) _ (f .before .if1 .left) _ _ (said k) _ _ _ (e .if2 .left) (sym (z .size .given .1) ∙ p .whole-part .ensures) (c .if3 .taken)
+    let f = k .before .before .before in
+    sized-large _ _ (slash k) _ (f .before .if1 .left) _ _ (said k) _ _ _ (e .if2 .left) (sym (z .size .given .1) ∙ p .whole-part .ensures) (c .if3 .taken)
 
 cast-store-network : tie.Need-cast-store-network
 cast-store-network c = search needs
@@ -127,16 +119,14 @@ returns-6 c =
     let p = z .before .before in
     let e = p .before .before in
     let k = e .before in
-    let f = k .before .before .before .before .before in
-    sized-stored _ _ (f .find .ensures) _ (f .before .if1 .left) _ _ (said k) _ _ _ (e .if2 .left) (sym (z .size .given .1) ∙ p .whole-part .ensures) (t .if3 .left) _ _ (st .store-network2 .ensures)
+    let f = k .before .before .before in
+    sized-stored _ _ (slash k) _ (f .before .if1 .left) _ _ (said k) _ _ _ (e .if2 .left) (sym (z .size .given .1) ∙ p .whole-part .ensures) (t .if3 .left) _ _ (st .store-network2 .ensures)
 
 pub read-network-spec : {M : Type 1} → statement M
 read-network-spec =
     tie.close
     (tie.spec
     returns
-    find-requires
-    slice-aggregate-read-given
     read-given-requires
     enum-known-value
     enum-told
