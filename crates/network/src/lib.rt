@@ -13,7 +13,7 @@ use address::Writing;
 use digits::read::Leading;
 use given::Given;
 use given::read_given;
-use octets::bytes::write_octets;
+use octets::write_octets;
 use output::store;
 use parts::whole_part;
 

@@ -12,7 +12,7 @@ use Rattle.address.specs.declared.Address.{Address}
 use Rattle.address.specs.declared.Address.the-variants.{V4, V6}
 use Rattle.address.specs.Addresses.{number}
 use Rattle.octets.specs.BigEndian.{digitsOf}
-use Rattle.octets.specs.Octets.{groupsOf}
+use Rattle.address_groups.specs.Groups.{groupsOf}
 use Rattle.octets.proofs.DigitLaws.{digits-length}
 use Rattle.digits.proofs.SeparatedLaws.{numerals-most}
 use Rattle.dotted.specs.Dotted.{dottedText}

@@ -14,8 +14,8 @@ use Rattle.address.specs.declared.Address.the-variants.{V4, V6}
 use Rattle.address.specs.Addresses.{IsAddress, family, number}
 use Rattle.address.specs.Answers.{readAnswer, noAddress, gives}
 use Rattle.octets.specs.BigEndian.{AllBelow, digitsOf}
-use Rattle.octets.specs.Octets.{groupsOf, groupsAddress}
-use Rattle.octets.proofs.Claims.{halves-of-groups}
+use Rattle.address_groups.specs.Groups.{groupsOf, groupsAddress}
+use Rattle.address_groups.proofs.Claims.{halves-of-groups}
 use Rattle.octets.proofs.DigitLaws.{digits-length, digits-number, digits-below, below-take, below-drop}
 use Rattle.digits.specs.Numerals.{digitOf, groupOf, decimal, hex}
 use Rattle.digits.specs.Pieces.{contains}

@@ -6,7 +6,7 @@ use lib.Dec.{ltb}
 use lib.ListN.{take, drop}
 use Rattle.address.specs.declared.Address.{Address}
 use Rattle.address.specs.declared.Address.the-variants.{V4, V6}
-use Rattle.octets.specs.Octets.{groupsOf}
+use Rattle.address_groups.specs.Groups.{groupsOf}
 use Rattle.digits.specs.Numerals.{hex}
 use Rattle.digits.specs.Pieces.{separated}
 use Rattle.dotted.specs.Dotted.{dottedText}

@@ -6,9 +6,9 @@ ghost use Rattle.output.specs.Placing.{Puts};
 ghost use Rattle.normal.specs.Normal.{normalText};
 use address::Address;
 use address::Writing;
+use address_groups::groups;
 use build::put_eight;
 use dotted::put_dotted;
-use octets::groups::groups;
 use output::store;
 
 mod build;

@@ -1,4 +1,4 @@
--- What is claimed of octets and groups. Assumes nothing.
+-- What is claimed of octets. Assumes nothing.
 use mathlib.Core.Path.{_≡_, refl, sym, ap, ap₂, _∙_}
 use mathlib.Core.List.{List}
 use Prim.Native.Nat.{ℕ, _-_, _^_, _<_}
@@ -14,21 +14,9 @@ use Rattle.address.specs.Addresses.{IsAddress}
 use Rattle.address.specs.Answers.{Answer, gives}
 use Rattle.address.proofs.Claims.{gives-one}
 use Rattle.octets.specs.BigEndian.{AllBelow, digitsOf, numberOf}
-use Rattle.octets.specs.Octets.{octets, octetsAnswer, groupsOf, groupsAddress}
+use Rattle.octets.specs.Octets.{octets, octetsAnswer}
 use Rattle.octets.proofs.DigitLaws.{digits-length, digits-number, number-digits, halves-number, halves-digits}
 use Rattle.octets.proofs.OctetLaws.{octets-length, read-4, read-6, read-other}
-
--- The groups of two halves give the halves back, and the halves of eight groups the groups.
-pub halves-of-groups : (hi lo : ℕ) → hi < 2 ^ 64 → lo < 2 ^ 64 → groupsAddress (groupsOf hi lo) ≡ V6 hi lo
-unfolding groupsAddress groupsOf
-halves-of-groups hi lo h l = let back = halves-number 65536 4 (lit< tt) hi lo h l in ap₂ V6 (back .0) (back .1)
-
-pub groups-of-halves : (gs : List ℕ) (hi lo : ℕ) → length gs ≡ 8 → AllBelow 65536 gs → groupsAddress gs ≡ V6 hi lo → groupsOf hi lo ≡ gs
-unfolding groupsAddress groupsOf
-groups-of-halves gs hi lo long small e =
-    let h : numberOf 65536 (take 4 gs) ≡ hi = cc in
-    let l : numberOf 65536 (drop 4 gs) ≡ lo = cc in
-    rw (← h, ← l) (halves-digits 65536 4 (lit< tt) gs long small)
 
 -- An address put into bytes is taken back.
 pub octets-read-back : (a : Address) → IsAddress a → octetsAnswer (octets a) ≡ gives a

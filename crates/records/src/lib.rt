@@ -12,8 +12,8 @@ use address::Check;
 use address::Reading;
 use address::Refusal;
 use address::Writing;
-use octets::bytes::read_octets;
-use octets::bytes::write_octets;
+use octets::read_octets;
+use octets::write_octets;
 
 // How many bytes the record of a block with that address has.
 pub fn record_size(address: Address) -> usize

@@ -1,6 +1,6 @@
 -- What is claimed of the specimens (01, "Specimens on both sides"): computed, by the definitions that the contracts cite. Assumes nothing.
 use mathlib.Core.Path.{refl}
-use Rattle.octets.specs.Octets.{groupsOf, groupsAddress}
+use Rattle.address_groups.specs.Groups.{groupsOf, groupsAddress}
 use Rattle.digits.specs.Ascii.{ascii}
 use Rattle.digits.specs.Numerals.{groupOf, numeral}
 use Rattle.dotted.specs.Dotted.{dottedText}

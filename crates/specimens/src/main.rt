@@ -13,7 +13,7 @@ use network::NetworkReading;
 use network::read_network;
 use network_text::write_network;
 use normal::write_address;
-use octets::bytes::read_octets;
+use octets::read_octets;
 use ranges::RangeWriting;
 use ranges::range_blocks;
 use text::read_address;

@@ -11,7 +11,7 @@ use lib.ListN.{length, take, drop}
 use Rattle.address.specs.declared.Address.{Address}
 use Rattle.address.specs.declared.Address.the-variants.{V4}
 use Rattle.octets.specs.BigEndian.{digitsOf}
-use Rattle.octets.specs.Octets.{groupsAddress}
+use Rattle.address_groups.specs.Groups.{groupsAddress}
 use Rattle.digits.specs.Numerals.{digitOf, groupOf}
 use Rattle.digits.specs.Pieces.{contains, splitOn}
 use Rattle.digits.proofs.NumeralLaws.{no-digit, group-digits}

@@ -10,7 +10,7 @@ use lib.ListN.{length}
 use Rattle.address.specs.declared.Address.{Address}
 use Rattle.address.specs.declared.Address.the-variants.{V4}
 use Rattle.octets.specs.BigEndian.{digitsOf}
-use Rattle.octets.specs.Octets.{groupsAddress}
+use Rattle.address_groups.specs.Groups.{groupsAddress}
 use Rattle.digits.specs.Numerals.{groupOf}
 use Rattle.digits.specs.Pieces.{contains}
 use Rattle.digits.proofs.SeparatedLaws.{Lacks, split-lacks}

@@ -13,7 +13,7 @@ use Rattle.address.specs.declared.Address.{Address}
 use Rattle.address.specs.declared.Address.the-variants.{V4}
 use Rattle.address.specs.Addresses.{IsAddress}
 use Rattle.octets.specs.BigEndian.{AllBelow, digitsOf}
-use Rattle.octets.specs.Octets.{groupsAddress}
+use Rattle.address_groups.specs.Groups.{groupsAddress}
 use Rattle.octets.proofs.DigitLaws.{below-append, zeros-below, digits-below, number-below, below-take, below-drop}
 use Rattle.digits.specs.Numerals.{groupOf}
 use Rattle.digits.specs.Pieces.{splitOn}

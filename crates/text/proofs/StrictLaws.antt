@@ -13,7 +13,7 @@ use Rattle.address.specs.declared.Reading.the-variants.{Read, Refused}
 use Rattle.address.specs.declared.Refusal.{Refusal}
 use Rattle.address.specs.declared.Refusal.the-variants.{TextTooLong, WrongFamily}
 use Rattle.address.specs.Answers.{refuses, noAddress, readingAnswer, readAnswer}
-use Rattle.octets.specs.Octets.{groupsAddress}
+use Rattle.address_groups.specs.Groups.{groupsAddress}
 use Rattle.dotted.specs.Dotted.{dottedOf}
 use Rattle.text.specs.Inner.{asReading}
 use Rattle.groups.specs.EightGroups.{orElse, eightOf}

@@ -8,7 +8,7 @@ use lib.ListN.{length}
 use Rattle.address.specs.declared.Address.{Address}
 use Rattle.address.specs.declared.Address.the-variants.{V4}
 use Rattle.address.specs.Answers.{Answer, readAnswer, noAddress}
-use Rattle.octets.specs.Octets.{groupsAddress}
+use Rattle.address_groups.specs.Groups.{groupsAddress}
 use Rattle.dotted.specs.Dotted.{dottedOf}
 use Rattle.groups.specs.EightGroups.{orElse, eightOf}
 

@@ -3,7 +3,7 @@ ghost use mathlib.Core.Path.{_≡_};
 ghost use mathlib.Core.Option.{Option·map};
 ghost use Rattle.address.specs.Answers.{readingAnswer};
 ghost use Rattle.address.specs.declared.Address.the-variants.{V4};
-ghost use Rattle.octets.specs.Octets.{groupsAddress};
+ghost use Rattle.address_groups.specs.Groups.{groupsAddress};
 ghost use Rattle.dotted.specs.Dotted.{dottedOf};
 ghost use Rattle.text.specs.Inner.{asReading};
 ghost use Rattle.groups.specs.EightGroups.{orElse, eightOf};
@@ -11,10 +11,10 @@ ghost use Rattle.text.specs.Strict.{knownFamily, strictAnswer};
 use address::Address;
 use address::Reading;
 use address::Refusal;
+use address_groups::from_groups;
 use dotted::Dotted;
 use dotted::read_dotted;
 use groups::read_eight;
-use octets::groups::from_groups;
 
 fn read_ipv4(text: &[u8]) -> Reading
     ensures { λ r. ⌜ r ≡ asReading (Option·map V4 (dottedOf (now (text .entry)))) ⌝ }

@@ -1,4 +1,4 @@
--- `octets::bytes::write_octets` meets its contract. Assumes nothing.
+-- `octets::write_octets` meets its contract. Assumes nothing.
 use mathlib.Core.Path.{_≡_, sym, ap, _∙_}
 use mathlib.Core.List.{_++_}
 use Prim.Native.Nat.{_/_, _^_, _<_}
@@ -14,8 +14,8 @@ use Rattle.octets.specs.Octets.{octets}
 use Rattle.octets.specs.BigEndian.{digitsOf}
 use Rattle.octets.proofs.DigitLaws.{digits-length}
 use Rattle.octets.proofs.OctetLaws.{octets-4, octets-6, octets-length}
-use Rattle.octets.proofs.bytes.write_octets.Statement.{statement}
-use Rattle.octets.proofs.bytes.write_octets.Tie as tie
+use Rattle.octets.proofs.write_octets.Statement.{statement}
+use Rattle.octets.proofs.write_octets.Tie as tie
 
 -- how many octets an address of a known kind has
 count : (a k : Address) → a ≡ k → length (octets a) ≡ width k / 8

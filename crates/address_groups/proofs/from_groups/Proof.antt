@@ -1,15 +1,15 @@
--- `octets::groups::from_groups` meets its contract. Assumes nothing.
+-- `address_groups::from_groups` meets its contract. Assumes nothing.
 use mathlib.Core.Path.{_≡_, sym, ap, ap₂, _∙_}
 use native.Mathlib.Omega.{arith}
 use borrow.Author.Needs.{needs}
 use lib.ListN.{length, drop, length-drop}
 use lib.Seq.{take-all}
 use Rattle.address.specs.declared.Address.the-variants.{V6}
-use Rattle.octets.specs.Octets.{groupsAddress}
+use Rattle.address_groups.specs.Groups.{groupsAddress}
 use Rattle.octets.specs.BigEndian.{numberOf}
 use Rattle.octets.proofs.DigitLaws.{take-four, four-number}
-use Rattle.octets.proofs.groups.from_groups.Statement.{statement}
-use Rattle.octets.proofs.groups.from_groups.Tie as tie
+use Rattle.address_groups.proofs.from_groups.Statement.{statement}
+use Rattle.address_groups.proofs.from_groups.Tie as tie
 
 array-read-half : tie.Need-array-read-half
 array-read-half c = search needs

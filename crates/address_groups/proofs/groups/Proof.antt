@@ -1,14 +1,14 @@
--- `octets::groups::groups` meets its contract: four digits of each half. Assumes nothing.
+-- `address_groups::groups` meets its contract: four digits of each half. Assumes nothing.
 use mathlib.Core.Path.{sym, ap₂, _∙_}
 use mathlib.Core.List.{_++_}
 use Prim.Native.Nat.{_<_, _^_}
 use native.Mathlib.Omega.{arith}
 use borrow.Author.Needs.{needs}
 use lib.Dec.{lit<}
-use Rattle.octets.specs.Octets.{groupsOf}
+use Rattle.address_groups.specs.Groups.{groupsOf}
 use Rattle.octets.proofs.DigitLaws.{digits-split, four-digits}
-use Rattle.octets.proofs.groups.groups.Statement.{statement}
-use Rattle.octets.proofs.groups.groups.Tie as tie
+use Rattle.address_groups.proofs.groups.Statement.{statement}
+use Rattle.address_groups.proofs.groups.Tie as tie
 
 cast-t4 : tie.Need-cast-t4
 cast-t4 c = search needs

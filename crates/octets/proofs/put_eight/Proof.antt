@@ -1,4 +1,4 @@
--- `octets::bytes::put_eight` meets its contract. Assumes nothing.
+-- `octets::put_eight` meets its contract. Assumes nothing.
 use mathlib.Core.Path.{sym, ap, _∙_}
 use mathlib.Core.List.{_++_}
 use Prim.Native.Nat.{_+_, _/_, _%_, _<_}
@@ -9,8 +9,8 @@ use lib.ListN.{drop}
 use Rattle.address.proofs.BufferLaws.{put-behind}
 use Rattle.octets.specs.BigEndian.{digitsOf}
 use Rattle.octets.proofs.DigitLaws.{digits-split, digits-length}
-use Rattle.octets.proofs.bytes.put_eight.Statement.{statement}
-use Rattle.octets.proofs.bytes.put_eight.Tie as tie
+use Rattle.octets.proofs.put_eight.Statement.{statement}
+use Rattle.octets.proofs.put_eight.Tie as tie
 
 cast-put-four : tie.Need-cast-put-four
 cast-put-four c = search needs

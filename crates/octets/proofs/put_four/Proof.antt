@@ -1,4 +1,4 @@
--- `octets::bytes::put_four` meets its contract. Assumes nothing.
+-- `octets::put_four` meets its contract. Assumes nothing.
 use mathlib.Core.Path.{sym, ap, _∙_}
 use mathlib.Core.List.{[], _∷_, _++_}
 use Prim.Native.Nat.{_/_, _%_, _^_, _<_}
@@ -8,8 +8,8 @@ use lib.Dec.{lit<}
 use lib.ListN.{drop, length-set}
 use lib.Seq.{sets-eq}
 use Rattle.octets.proofs.DigitLaws.{four-digits}
-use Rattle.octets.proofs.bytes.put_four.Statement.{statement}
-use Rattle.octets.proofs.bytes.put_four.Tie as tie
+use Rattle.octets.proofs.put_four.Statement.{statement}
+use Rattle.octets.proofs.put_four.Tie as tie
 
 cast-out : tie.Need-cast-out
 cast-out c = search needs

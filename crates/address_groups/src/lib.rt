@@ -1,7 +1,7 @@
 // The eight groups of an IPv6 address, as one value.
 ghost use mathlib.Core.Path.{_≡_};
 ghost use Prim.Native.Nat.{_+_, _*_};
-ghost use Rattle.octets.specs.Octets.{groupsOf, groupsAddress};
+ghost use Rattle.address_groups.specs.Groups.{groupsOf, groupsAddress};
 use address::Address;
 
 // The groups of the address with these halves.

@@ -1,0 +1,2 @@
+-- Claims: the theorems, gathered for a reader.
+pub mod Claims
