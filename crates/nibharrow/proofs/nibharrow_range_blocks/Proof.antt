@@ -1,8 +1,8 @@
 -- `nibharrow::nibharrow_range_blocks` meets its contract. Assumes nothing.
 use mathlib.Core.Path.{refl, sym, ap, _∙_}
 use Rattle.address.specs.Answers.{noAddress, readingAnswer}
-use Rattle.nibharrow.specs.Interface.{rangeInto}
-use Rattle.nibharrow.proofs.InterfaceLaws.{both, to-same, when-given, when-refused}
+use Rattle.interface.specs.Interface.{rangeInto}
+use Rattle.interface.proofs.InterfaceLaws.{both, to-same, when-given, when-refused}
 use borrow.Author.Needs.{needs}
 use Rattle.nibharrow.proofs.nibharrow_range_blocks.Statement.{statement}
 use Rattle.nibharrow.proofs.nibharrow_range_blocks.Tie as tie

@@ -1,8 +1,8 @@
 -- `nibharrow::nibharrow_split` meets its contract. Assumes nothing.
 use mathlib.Core.Path.{sym, ap, _∙_}
 use Rattle.address.specs.Answers.{noAddress, readingAnswer}
-use Rattle.nibharrow.specs.Interface.{octetsSplit}
-use Rattle.nibharrow.proofs.InterfaceLaws.{when-given, when-refused}
+use Rattle.interface.specs.Interface.{octetsSplit}
+use Rattle.interface.proofs.InterfaceLaws.{when-given, when-refused}
 use borrow.Author.Needs.{needs}
 use Rattle.nibharrow.proofs.nibharrow_split.Statement.{statement}
 use Rattle.nibharrow.proofs.nibharrow_split.Tie as tie

@@ -1,8 +1,8 @@
 -- `nibharrow::nibharrow_write_address` meets its contract. Assumes nothing.
 use mathlib.Core.Path.{refl, sym, ap, _∙_}
 use Rattle.address.specs.Answers.{noAddress, readingAnswer}
-use Rattle.nibharrow.specs.Interface.{addressWritten}
-use Rattle.nibharrow.proofs.InterfaceLaws.{both, wrote, when-given, when-refused}
+use Rattle.interface.specs.Interface.{addressWritten}
+use Rattle.interface.proofs.InterfaceLaws.{both, wrote, when-given, when-refused}
 use borrow.Author.Needs.{needs}
 use Rattle.nibharrow.proofs.nibharrow_write_address.Statement.{statement}
 use Rattle.nibharrow.proofs.nibharrow_write_address.Tie as tie

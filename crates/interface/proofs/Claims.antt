@@ -20,7 +20,7 @@ use Rattle.normal.proofs.Claims.{read-back-answer}
 use Rattle.network.specs.Network.{networkOf, noNetwork, networkAnswer, networkLeaves}
 use Rattle.ranges.specs.Ranges.{rangeRecords, rangeAnswer, rangeLeaves}
 use Rattle.c_answers.specs.CAnswers.{besides}
-use Rattle.nibharrow.specs.Interface.{Outcome, outcome, whenGiven, refusedBy, andThen, writes, addressInto, addressWritten, networkInto, networkWritten, blockInto, blockWritten, rangeTo, rangeInto, wordsInto}
+use Rattle.interface.specs.Interface.{Outcome, outcome, whenGiven, refusedBy, andThen, writes, addressInto, addressWritten, networkInto, networkWritten, blockInto, blockWritten, rangeTo, rangeInto, wordsInto}
 
 -- Demand 1, of an answer whose fields are `zeros` at zero and count the bytes written by `count`.
 pub record Careful {A : Type 0} (zeros : A) (count : A → ℕ) (old : List ℕ) (o : Outcome A) : Type 0 where

@@ -19,7 +19,7 @@ use Rattle.network_text.specs.NetworkText.{networkText}
 use Rattle.text.specs.Strict.{knownFamily, strictAnswer}
 use Rattle.text.proofs.StrictLaws.{strict-unknown}
 use Rattle.c_answers.specs.CAnswers.{besides}
-use Rattle.nibharrow.specs.Interface.{Outcome, outcome, whenGiven, addressInto, rangeTo, writes, networkWrites, blockWrites}
+use Rattle.interface.specs.Interface.{Outcome, outcome, whenGiven, addressInto, rangeTo, writes, networkWrites, blockWrites}
 
 -- equal answers and equal buffers
 pub both : {A : Type 0} {a b : Answer A} {l m : List ℕ} → a ≡ b → l ≡ m → outcome a l ≡ outcome b m

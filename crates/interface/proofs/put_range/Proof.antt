@@ -1,11 +1,11 @@
--- `nibharrow::put_range` meets its contract. Assumes nothing.
+-- `interface::put_range` meets its contract. Assumes nothing.
 use mathlib.Core.Path.{refl, sym, ap, _∙_}
 use Rattle.address.specs.Answers.{noAddress, readingAnswer}
-use Rattle.nibharrow.specs.Interface.{rangeTo}
-use Rattle.nibharrow.proofs.InterfaceLaws.{both, when-given, when-refused}
+use Rattle.interface.specs.Interface.{rangeTo}
+use Rattle.interface.proofs.InterfaceLaws.{both, when-given, when-refused}
 use borrow.Author.Needs.{needs}
-use Rattle.nibharrow.proofs.put_range.Statement.{statement}
-use Rattle.nibharrow.proofs.put_range.Tie as tie
+use Rattle.interface.proofs.put_range.Statement.{statement}
+use Rattle.interface.proofs.put_range.Tie as tie
 
 enum-known-last : tie.Need-enum-known-last
 enum-known-last c = search needs
