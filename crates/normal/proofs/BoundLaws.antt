@@ -16,9 +16,9 @@ use Rattle.address_groups.specs.Groups.{groupsOf}
 use Rattle.octets.proofs.DigitLaws.{digits-length}
 use Rattle.digits.proofs.SeparatedLaws.{numerals-most}
 use Rattle.dotted.specs.Dotted.{dottedText}
-use Rattle.normal.specs.Runs.{longestRun, firstRun}
+use Rattle.zero_runs.specs.Runs.{longestRun, firstRun}
 use Rattle.normal.specs.Normal.{groupsText, shortened, normalGroups, normalText}
-use Rattle.normal.proofs.RunLaws.{run-is}
+use Rattle.zero_runs.proofs.RunLaws.{run-is}
 
 pub text-4-most : (v : ℕ) → length (normalText (V4 v)) ≤ 15
 unfolding normalText dottedText

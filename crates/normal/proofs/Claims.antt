@@ -23,11 +23,11 @@ use Rattle.text.proofs.ByteLaws.{strict-lacks}
 use Rattle.text.proofs.MeaningLaws.{strict-address}
 use Rattle.text.proofs.SpellingLaws.{eight-spelling, gap-spelling}
 use Rattle.dotted.specs.Dotted.{every}
-use Rattle.normal.specs.Runs.{ZeroRun, LeftmostLongest, longestRun, firstRun}
+use Rattle.zero_runs.specs.Runs.{ZeroRun, LeftmostLongest, longestRun, firstRun}
 use Rattle.normal.specs.Normal.{groupsText, shortened, normalGroups, normalText}
 use Rattle.normal.proofs.BoundLaws.{text-4-most, text-6-most}
 use Rattle.normal.proofs.ReadBackLaws.{groups-read, shortened-read, text-read, text-answer, text-6-lacks}
-use Rattle.normal.proofs.RunLaws as runs
+use Rattle.zero_runs.proofs.RunLaws as runs
 
 -- ---- lengths
 

@@ -9,9 +9,9 @@ use borrow.Author.Tests.{lt-ltb, le-ltb}
 use lib.ListN.{length, take, getD, length-take, drop-of-length-le}
 use lib.Seq.{slice, slice-cons, slice-empty, length-slice, take-suc, take-all, length-take-le, drop-append-le}
 use Rattle.digits.specs.Numerals.{hex}
-use Rattle.normal.specs.Runs.{LeftmostLongest}
+use Rattle.zero_runs.specs.Runs.{LeftmostLongest}
 use Rattle.normal.specs.Normal.{groupsText, normalGroups}
-use Rattle.normal.proofs.RunLaws.{run-only}
+use Rattle.zero_runs.proofs.RunLaws.{run-only}
 
 -- one group more
 groups-more : (xs : List ℕ) (y : ℕ) → 0 < length xs → groupsText xs ++ 58 ∷ hex y ≡ groupsText (xs ++ y ∷ [])

@@ -1,6 +1,5 @@
--- RunLaws: the run that the loops find. GroupsTextLaws: groups with colons, one more at a time. BoundLaws: how long normal text can be.
+-- GroupsTextLaws: groups with colons, one more at a time. BoundLaws: how long normal text can be.
 -- ReadBackLaws: normal text, read. Claims: what 01 and the demands ask of strict and normal text together.
-pub mod RunLaws
 pub mod GroupsTextLaws
 pub mod BoundLaws
 pub mod ReadBackLaws

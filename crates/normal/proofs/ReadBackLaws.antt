@@ -28,9 +28,9 @@ use Rattle.text.proofs.FamilyLaws.{eight-colon}
 use Rattle.text.proofs.SpellingLaws.{dotted-spelling, eight-spelling, gap-spelling}
 use Rattle.dotted.specs.Dotted.{dottedText, every, dottedOf}
 use Rattle.dotted.proofs.EveryLaws.{every-written, every-decimal}
-use Rattle.normal.specs.Runs.{ZeroRun, longestRun, firstRun}
+use Rattle.zero_runs.specs.Runs.{ZeroRun, longestRun, firstRun}
 use Rattle.normal.specs.Normal.{groupsText, shortened, normalGroups, normalText}
-use Rattle.normal.proofs.RunLaws.{run-is}
+use Rattle.zero_runs.proofs.RunLaws.{run-is}
 use Rattle.normal.proofs.BoundLaws.{text-most}
 
 -- ---- numbers, each written and read

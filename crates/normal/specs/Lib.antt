@@ -1,3 +1,2 @@
--- Runs: the leftmost longest run of zeros. Normal: the normal text of an address.
-pub mod Runs
+-- Normal: the normal text of an address.
 pub mod Normal

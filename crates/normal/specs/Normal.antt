@@ -10,7 +10,7 @@ use Rattle.address_groups.specs.Groups.{groupsOf}
 use Rattle.digits.specs.Numerals.{hex}
 use Rattle.digits.specs.Pieces.{separated}
 use Rattle.dotted.specs.Dotted.{dottedText}
-use Rattle.normal.specs.Runs.{longestRun, firstRun}
+use Rattle.zero_runs.specs.Runs.{longestRun, firstRun}
 
 -- groups in "lower case, no leading zeros in a group", with single colons between them
 unfoldable pub groupsText : List ℕ → List ℕ

@@ -3,9 +3,9 @@ ghost use Prim.Native.Nat.{_≤_};
 ghost use lib.Seq.{slice};
 ghost use Rattle.output.specs.Placing.{Puts};
 ghost use Rattle.normal.specs.Normal.{groupsText, normalGroups};
-use crate::runs::longest_run;
 use output::put;
 use output::put_hex;
+use zero_runs::longest_run;
 
 // Puts the groups from `from` to before `to` in hexadecimal, with colons between them.
 fn put_groups(text: &mut [u8], at: usize, groups: [u16; 8], from: usize, to: usize) -> usize

@@ -12,7 +12,6 @@ use dotted::put_dotted;
 use output::store;
 
 mod build;
-mod runs;
 
 // Puts the normal text of an address at an index of the text, as far as there is room, and answers the next index.
 pub fn put_address(text: &mut [u8], at: usize, address: Address) -> usize

@@ -5,7 +5,7 @@ use Rattle.digits.specs.Ascii.{ascii}
 use Rattle.digits.specs.Numerals.{groupOf, numeral}
 use Rattle.dotted.specs.Dotted.{dottedText}
 use Rattle.text.specs.Strict.{strictAnswer}
-use Rattle.normal.specs.Runs.{zerosOf}
+use Rattle.zero_runs.specs.Runs.{zerosOf}
 use Rattle.normal.specs.Normal.{normalText}
 use Rattle.loose.specs.Loose.{looseAnswer}
 use Rattle.network_text.specs.NetworkText.{networkText}

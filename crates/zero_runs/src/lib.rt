@@ -1,5 +1,5 @@
 // The run of zero groups that normal text shortens.
-ghost use Rattle.normal.specs.Runs.{LeftmostLongest};
+ghost use Rattle.zero_runs.specs.Runs.{LeftmostLongest};
 
 // A run of groups.
 pub struct Run {

@@ -10,7 +10,7 @@ use borrow.Author.Tests.{eq-eqb, ne-eqb}
 use borrow.Author.Count.{below-more}
 use lib.ListN.{length, take, drop, getD, replicate, drop-of-length-le, length-drop}
 use lib.Seq.{drop-cons}
-use Rattle.normal.specs.Runs.{ZeroRun, LeftmostLongest, zerosOf, longestRun, firstRun}
+use Rattle.zero_runs.specs.Runs.{ZeroRun, LeftmostLongest, zerosOf, longestRun, firstRun}
 
 -- ---- the zeros that a list begins with
 

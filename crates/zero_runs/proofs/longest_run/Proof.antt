@@ -1,14 +1,14 @@
--- `normal::runs::longest_run` meets its contract. The outer loop has the best run among the starts passed, the inner one counts zeros. Assumes nothing.
+-- `zero_runs::longest_run` meets its contract. The outer loop has the best run among the starts passed, the inner one counts zeros. Assumes nothing.
 use mathlib.Core.Path.{_≡_}
 use mathlib.Core.Logic.{⊎-elim}
 use Prim.Native.Nat.{_+_, _-_, _≤_}
 use native.Mathlib.Omega.{arith}
 use borrow.Author.Needs.{needs}
 use lib.ListN.{length, drop}
-use Rattle.normal.specs.Runs.{zerosOf}
-use Rattle.normal.proofs.RunLaws.{goes-on, ends, ends-at-end, Best, best-none, best-new, best-kept, best-all}
-use Rattle.normal.proofs.runs.longest_run.Statement.{statement}
-use Rattle.normal.proofs.runs.longest_run.Tie as tie
+use Rattle.zero_runs.specs.Runs.{zerosOf}
+use Rattle.zero_runs.proofs.RunLaws.{goes-on, ends, ends-at-end, Best, best-none, best-new, best-kept, best-all}
+use Rattle.zero_runs.proofs.longest_run.Statement.{statement}
+use Rattle.zero_runs.proofs.longest_run.Tie as tie
 
 abbrev Inv-run : tie.InvT-run
 Inv-run groups best n start end₀ end = (start ≤ end) × (end ≤ 8) × (zerosOf (drop start groups) ≡ end - start + zerosOf (drop end groups))

@@ -1,0 +1,2 @@
+-- RunLaws: the run that the loops find.
+pub mod RunLaws

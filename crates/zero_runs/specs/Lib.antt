@@ -1,0 +1,2 @@
+-- Runs: the leftmost longest run of zeros.
+pub mod Runs
