@@ -15,8 +15,8 @@ use digits::read::find;
 use normal::put_address;
 use output::put;
 use output::put_decimal;
-use output::store;
 use parts::whole_part;
+use store::store;
 use text::read_address;
 
 // The block of a text of either family.

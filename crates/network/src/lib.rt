@@ -14,8 +14,8 @@ use digits::read::Leading;
 use given::Given;
 use given::read_given;
 use octets::write_octets;
-use output::store;
 use parts::whole_part;
+use store::store;
 
 // What the reader answers: the size in bits, and how many bytes are at the start of the lent buffer.
 pub enum NetworkReading {

@@ -13,7 +13,7 @@ use address::Refusal;
 use address::Writing;
 use output::put;
 use output::put_decimal;
-use output::store;
+use store::store;
 
 // The number with the bits beyond the size cleared.
 fn clear(v: u32, size: u8) -> u32

@@ -9,7 +9,7 @@ use address::Writing;
 use address_groups::groups;
 use build::put_eight;
 use dotted::put_dotted;
-use output::store;
+use store::store;
 
 mod build;
 

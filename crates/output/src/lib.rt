@@ -1,13 +1,10 @@
-// Text put together in a lent array, and a finished text stored in a lent buffer.
+// Text put together in a lent array.
 ghost use mathlib.Core.Path.{_≡_};
 ghost use mathlib.Core.Bool.{cond};
 ghost use mathlib.Core.List.{[], _∷_};
 ghost use Prim.Native.Nat.{_<_};
-ghost use Rattle.address.specs.Answers.{writingAnswer, writeAnswer, writeLeaves};
 ghost use Rattle.digits.specs.Numerals.{decimal, hex, digitByte};
 ghost use Rattle.output.specs.Placing.{Puts};
-use address::Refusal;
-use address::Writing;
 
 // Puts a byte at an index of the text, if there is room, and answers the next index.
 pub fn put(text: &mut [u8], at: usize, byte: u8) -> usize
@@ -55,20 +52,4 @@ pub fn put_hex(text: &mut [u8], at: usize, n: u16) -> usize
     let c = put_if(text, b, 256 <= n, digit_byte(n / 256 % 16));
     let d = put_if(text, c, 16 <= n, digit_byte(n / 16 % 16));
     put(text, d, digit_byte(n % 16))
-}
-
-// Stores a text at the start of `out`, where there is room for it.
-pub fn store(text: &[u8], out: &mut [u8]) -> Writing
-    ensures { λ r. ⌜ (writingAnswer r ≡ writeAnswer [] (now (text .entry)) (now (out .entry))) × (now (out .exit) ≡ writeLeaves [] (now (text .entry)) (now (out .entry))) ⌝ }
-{
-    let n = text.len();
-    if out.len() < n {
-        return Writing::Refused(Refusal::NoRoom);
-    }
-    let mut i: usize = 0;
-    while i < n {
-        out[i] = text[i];
-        i += 1;
-    }
-    Writing::Wrote(n)
 }

@@ -4,7 +4,7 @@ ghost use Rattle.address.specs.Answers.{writingAnswer, writeAnswer, writeLeaves
 ghost use Rattle.words.specs.Words.{wordsText, wordsReasons};
 use address::Refusal;
 use address::Writing;
-use output::store;
+use store::store;
 
 // Writes the words of a refusal's number to the start of `out`, where there is room for them.
 pub fn write_words(number: u32, out: &mut [u8]) -> Writing

@@ -1,4 +1,4 @@
--- `output::store` meets its contract. The loop's invariant: the first `i` bytes of the text stand over the buffer's. Assumes nothing.
+-- `store::store` meets its contract. The loop's invariant: the first `i` bytes of the text stand over the buffer's. Assumes nothing.
 use mathlib.Core.Path.{_≡_, refl}
 use Prim.Native.Nat.{_+_, _-_, _≤_, _<_}
 use native.Mathlib.Nat.{zero-add}
@@ -8,8 +8,8 @@ use borrow.Author.Needs.{needs}
 use lib.ListN.{length, length-set}
 use lib.Seq.{paste, paste-suc, take-length}
 use Rattle.address.proofs.AnswerLaws.{write-short, write-fits}
-use Rattle.output.proofs.store.Statement.{statement}
-use Rattle.output.proofs.store.Tie as tie
+use Rattle.store.proofs.store.Statement.{statement}
+use Rattle.store.proofs.store.Tie as tie
 
 abbrev Inv-loop : tie.InvT-loop
 Inv-loop text out₀ n i₀ out i = (i ≤ n) × (out ≡ paste out₀ 0 text i) × (length out ≡ length out₀)
