@@ -1,10 +1,12 @@
 // The C interface: each call of the library, with addresses as octets in network order.
 ghost use mathlib.Core.Path.{_≡_};
+ghost use Rattle.address.specs.Answers.{readingAnswer};
 ghost use Rattle.text.specs.Strict.{strictAnswer};
 ghost use Rattle.loose.specs.Loose.{looseAnswer};
 ghost use Rattle.classes.specs.Classes.{joinAnswer};
 ghost use Rattle.c_answers.specs.CAnswers.{writtenAnswer, networkReadAnswer, networkHostAnswer, blockReadAnswer, rangeWrittenAnswer};
-ghost use Rattle.interface.specs.Interface.{outcome, addressInto, addressWritten, networkInto, networkWritten, octetsSplit, blockInto, blockWritten, rangeInto, wordsInto};
+ghost use Rattle.interface.specs.Interface.{outcome, addressInto, addressWritten, networkInto, networkWritten, octetsSplit, blockInto, blockWritten, rangeTo, rangeInto, wordsInto};
+use address::Address;
 use address::Block;
 use address::BlockReading;
 use address::Reading;
@@ -26,8 +28,6 @@ use c_answers::refused;
 use classes::Splitting;
 use classes::join;
 use classes::split;
-use interface::put_range;
-use interface::put_reading;
 use loose::read_loose;
 use network::read_network;
 use network_text::write_network;
@@ -35,8 +35,19 @@ use normal::write_address;
 use octets::read_octets;
 use octets::write_octets;
 use ranges::RangeWriting;
+use ranges::range_blocks;
 use text::read_address;
 use words::write_words;
+
+// Puts the address that a reader answered at the start of `out`.
+fn put_reading(reading: Reading, out: &mut [u8]) -> Written
+    ensures { λ r. ⌜ outcome (writtenAnswer r) (now (out .exit)) ≡ addressInto (readingAnswer reading) (now (out .entry)) ⌝ }
+{
+    match reading {
+        Reading::Read(a) => as_written(write_octets(a, out)),
+        Reading::Refused(e) => refused(e),
+    }
+}
 
 #[no_mangle]
 pub extern "C" fn nibharrow_read_address(text: &[u8], family: u32, out: &mut [u8]) -> Written
@@ -122,6 +133,16 @@ pub extern "C" fn nibharrow_write_block(address: &[u8], length: u32, out: &mut [
             as_written(write_block(block, out))
         }
         Reading::Refused(e) => refused(e),
+    }
+}
+
+// Writes the records of the range from an address to the one that a reader answered.
+fn put_range(first: Address, last: Reading, out: &mut [u8]) -> RangeWritten
+    ensures { λ r. ⌜ outcome (rangeWrittenAnswer r) (now (out .exit)) ≡ rangeTo first (readingAnswer last) (now (out .entry)) ⌝ }
+{
+    match last {
+        Reading::Read(b) => as_range_written(range_blocks(first, b, out)),
+        Reading::Refused(e) => as_range_written(RangeWriting::Refused(e)),
     }
 }
 

@@ -1,11 +1,11 @@
--- `interface::put_range` meets its contract. Assumes nothing.
+-- `nibharrow::put_range` meets its contract. Assumes nothing.
 use mathlib.Core.Path.{refl, sym, ap, _∙_}
 use Rattle.address.specs.Answers.{noAddress, readingAnswer}
 use Rattle.interface.specs.Interface.{rangeTo}
 use Rattle.interface.proofs.InterfaceLaws.{both, when-given, when-refused}
 use borrow.Author.Needs.{needs}
-use Rattle.interface.proofs.put_range.Statement.{statement}
-use Rattle.interface.proofs.put_range.Tie as tie
+use Rattle.nibharrow.proofs.put_range.Statement.{statement}
+use Rattle.nibharrow.proofs.put_range.Tie as tie
 
 enum-known-last : tie.Need-enum-known-last
 enum-known-last c = search needs

@@ -1,11 +1,11 @@
--- `interface::put_reading` meets its contract. Assumes nothing.
+-- `nibharrow::put_reading` meets its contract. Assumes nothing.
 use mathlib.Core.Path.{refl, sym, ap, _∙_}
 use Rattle.address.specs.Answers.{noAddress, readingAnswer}
 use Rattle.interface.specs.Interface.{addressInto}
 use Rattle.interface.proofs.InterfaceLaws.{both, wrote, when-given, when-refused}
 use borrow.Author.Needs.{needs}
-use Rattle.interface.proofs.put_reading.Statement.{statement}
-use Rattle.interface.proofs.put_reading.Tie as tie
+use Rattle.nibharrow.proofs.put_reading.Statement.{statement}
+use Rattle.nibharrow.proofs.put_reading.Tie as tie
 
 enum-known-reading : tie.Need-enum-known-reading
 enum-known-reading c = search needs
