@@ -18,7 +18,7 @@ use Rattle.digits.specs.declared.read.Leading.the-variants.{Number, Nothing}
 use Rattle.digits.specs.Pieces.{indexOf}
 use Rattle.digits.specs.Numerals.{within, digitOf, allDigits, textNumber, boundedNumber, hexMarked, leading}
 use Rattle.digits.proofs.NumeralLaws.{Digits, read-number, read-digits, number-bound, digit-values}
-use Rattle.digits.proofs.PieceLaws.{index-le, at-most-says, bounded-reads, piece-nothing, piece-last, piece-more, piece-other}
+use Rattle.digits.proofs.PieceLaws.{ReadsDigits, index-le, at-most-says, bounded-reads, piece-nothing, piece-last, piece-more, piece-other}
 use Rattle.dotted.specs.declared.Parts.the-variants.{Numbers, NotParts}
 use Rattle.dotted.specs.Dotted.{partsOf, asParts}
 use Rattle.dotted.proofs.DottedLaws.{Octets, numbers-says, not-parts-says, parts-are}
@@ -155,33 +155,37 @@ module _ (t : List ℕ) where
       let value = halves-shifted ds (digit-values 16 t (d .all)) (omega arith) in
       rw (le-leb 1 (length t) (d .any), le-leb (length t) 8 h, d .all, halves-length ds, ← value, is, long)
 
+-- as the code reads them: a number of 32 bits
+abbrev hexNumber : List ℕ → Option ℕ
+hexNumber = boundedNumber 16 4294967295
+
+hex-reads : ReadsDigits 16 hexNumber
+hex-reads = bounded-reads 16 4294967295
+
 -- the digits before the slash, which is no digit
 module _ (t : List ℕ) where
-  abbrev Read : ℕ → ℕ → Type 0
-  Read v n = Number v n ≡ leading 16 (boundedNumber 16 4294967295) t
-
   slash-none : 16 ≤ digitOf 47
   unfolding digitOf
   slash-none = lit≤ tt
 
-  pub hex-nothing : Nothing ≡ leading 16 (boundedNumber 16 4294967295) t → NotGiven ≡ asGiven (hexBytes (beforeSlash t)) (indexOf 47 t)
-  hex-nothing h = sym (ap (λ o. asGiven o (indexOf 47 t)) (hex-none (beforeSlash t) (piece-nothing 16 47 slash-none (boundedNumber 16 4294967295) (bounded-reads 16 4294967295) t h)))
+  pub hex-nothing : Nothing ≡ leading 16 hexNumber t → NotGiven ≡ asGiven (hexBytes (beforeSlash t)) (indexOf 47 t)
+  hex-nothing h = sym (ap (λ o. asGiven o (indexOf 47 t)) (hex-none (beforeSlash t) (piece-nothing 16 47 slash-none hexNumber hex-reads t h)))
 
-  module _ (v n : ℕ) (h : Read v n) where
+  module _ (v n : ℕ) (h : Number v n ≡ leading 16 hexNumber t) where
     pub hex-short : (leb (length t) n || eqb (getD t n 0) 47) ≡ false → NotGiven ≡ asGiven (hexBytes (beforeSlash t)) (indexOf 47 t)
     hex-short e = elim (decLe (length t) n) [
       | yes l ↦ let no : true ≡ false = rw (le-leb (length t) n l) at e in let z : _≡_ {A = ℕ} 0 1 = cc in absurd (omega arith)
       | no l ↦
           let other = eqb-false (getD t n 0) 47 (rw (lt-leb (length t) n (omega arith)) at e) in
-          sym (ap (λ o. asGiven o (indexOf 47 t)) (hex-none (beforeSlash t) (piece-other 16 47 slash-none (boundedNumber 16 4294967295) (bounded-reads 16 4294967295) t v n h (omega arith) other)))
+          sym (ap (λ o. asGiven o (indexOf 47 t)) (hex-none (beforeSlash t) (piece-other 16 47 slash-none hexNumber hex-reads t v n h (omega arith) other)))
     ]
 
     -- all that is before the slash are digits
     module _ (e : (leb (length t) n || eqb (getD t n 0) 47) ≡ true) where
-      piece : (boundedNumber 16 4294967295 (beforeSlash t) ≡ some v) × (indexOf 47 t ≡ n)
+      piece : (hexNumber (beforeSlash t) ≡ some v) × (indexOf 47 t ≡ n)
       piece = elim (decLe (length t) n) [
-        | yes l ↦ piece-last 16 47 slash-none (boundedNumber 16 4294967295) (bounded-reads 16 4294967295) t v n h l
-        | no l ↦ piece-more 16 47 slash-none (boundedNumber 16 4294967295) (bounded-reads 16 4294967295) t v n h (omega arith) (eqb-true (getD t n 0) 47 (rw (lt-leb (length t) n (omega arith)) at e))
+        | yes l ↦ piece-last 16 47 slash-none hexNumber hex-reads t v n h l
+        | no l ↦ piece-more 16 47 slash-none hexNumber hex-reads t v n h (omega arith) (eqb-true (getD t n 0) 47 (rw (lt-leb (length t) n (omega arith)) at e))
       ]
 
       whole : textNumber 16 (beforeSlash t) ≡ some v

@@ -10,8 +10,10 @@ use lib.Dec.{eqb}
 use Rattle.address.specs.declared.Address.{Address}
 use Rattle.address.specs.declared.Block.{Block}
 use Rattle.address.specs.Addresses.{family, width, number}
+use Rattle.address.specs.declared.Reading.{Reading}
+use Rattle.address.specs.declared.Reading.the-variants.{Read, Refused}
 use Rattle.address.specs.declared.Refusal.{Refusal}
-use Rattle.address.specs.Answers.{Answer, gives, refuses, refusalNumber, writeAnswer, writeLeaves}
+use Rattle.address.specs.Answers.{Answer, gives, refuses, refusalNumber, noAddress, readingAnswer, writeAnswer, writeLeaves}
 use Rattle.address.proofs.AnswerLaws.{nonzero}
 use Rattle.blocks.specs.BlockText.{blockText}
 use Rattle.blocks.proofs.BlockTextLaws.{width-most}
@@ -40,6 +42,14 @@ module _ {A B : Type 0} (refused : ℕ → B) (f : A → B) (x : Answer A) where
   pub when-refused : (z : A) (e : Refusal) → refuses z e ≡ x → refused (refusalNumber e) ≡ whenGiven refused x f
   unfolding whenGiven
   when-refused z e h = rw (← h, nonzero e)
+
+-- what a match tells of a reading, where the reading answers x
+module _ {B : Type 0} (refused : ℕ → B) (f : Address → B) (x : Answer Address) (r : Reading) (h : readingAnswer r ≡ x) where
+  pub reading-given : (a : Address) → r ≡ Read a → f a ≡ whenGiven refused x f
+  reading-given a e = when-given refused f x a (ap readingAnswer (sym e) ∙ h)
+
+  pub reading-refused : (e : Refusal) → r ≡ Refused e → refused (refusalNumber e) ≡ whenGiven refused x f
+  reading-refused e k = when-refused refused f x noAddress e (ap readingAnswer (sym k) ∙ h)
 
 -- equal answers of a reader go the same way
 pub to-same : (first : Address) (x y : Answer Address) (old : List ℕ) (o : Outcome (ℕ × ℕ)) → o ≡ rangeTo first x old → x ≡ y → o ≡ rangeTo first y old

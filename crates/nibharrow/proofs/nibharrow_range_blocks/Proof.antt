@@ -1,8 +1,7 @@
 -- `nibharrow::nibharrow_range_blocks` meets its contract. Assumes nothing.
-use mathlib.Core.Path.{refl, sym, ap, _∙_}
-use Rattle.address.specs.Answers.{noAddress, readingAnswer}
+use mathlib.Core.Path.{refl, _∙_}
 use Rattle.interface.specs.Interface.{rangeInto}
-use Rattle.interface.proofs.InterfaceLaws.{both, to-same, when-given, when-refused}
+use Rattle.interface.proofs.InterfaceLaws.{both, to-same, reading-given, reading-refused}
 use borrow.Author.Needs.{needs}
 use Rattle.nibharrow.proofs.nibharrow_range_blocks.Statement.{statement}
 use Rattle.nibharrow.proofs.nibharrow_range_blocks.Tie as tie
@@ -35,14 +34,14 @@ returns c =
     let o = p .before .before in
     let r = o .before .before in
     to-same _ _ _ _ _ (p .put-range .ensures) (o .read-octets2 .ensures)
-    ∙ when-given _ _ _ (r .a .given .0 .0) (ap readingAnswer (sym (r .a .given .1)) ∙ r .before .before .read-octets .ensures)
+    ∙ reading-given _ _ _ _ (r .before .before .read-octets .ensures) (r .a .given .0 .0) (r .a .given .1)
 
 returns-2 : tie.Need-returns-2
 unfolding rangeInto
 returns-2 c =
     let r = c .before .before in
     both (c .as-range-written .ensures) refl
-    ∙ when-refused _ _ _ noAddress (r .e .given .0 .0) (ap readingAnswer (sym (r .e .given .1)) ∙ r .before .before .read-octets .ensures)
+    ∙ reading-refused _ _ _ _ (r .before .before .read-octets .ensures) (r .e .given .0 .0) (r .e .given .1)
 
 pub nibharrow-range-blocks-spec : {M : Type 1} → statement M
 nibharrow-range-blocks-spec =

@@ -1,8 +1,7 @@
 -- `nibharrow::nibharrow_split` meets its contract. Assumes nothing.
-use mathlib.Core.Path.{sym, ap, _∙_}
-use Rattle.address.specs.Answers.{noAddress, readingAnswer}
+use mathlib.Core.Path.{_∙_}
 use Rattle.interface.specs.Interface.{octetsSplit}
-use Rattle.interface.proofs.InterfaceLaws.{when-given, when-refused}
+use Rattle.interface.proofs.InterfaceLaws.{reading-given, reading-refused}
 use borrow.Author.Needs.{needs}
 use Rattle.nibharrow.proofs.nibharrow_split.Statement.{statement}
 use Rattle.nibharrow.proofs.nibharrow_split.Tie as tie
@@ -32,14 +31,14 @@ returns c =
     let r = s .before .before in
     c .as-network-host .ensures
     ∙ s .split .ensures
-    ∙ when-given _ _ _ (r .a .given .0 .0) (ap readingAnswer (sym (r .a .given .1)) ∙ r .before .before .read-octets .ensures)
+    ∙ reading-given _ _ _ _ (r .before .before .read-octets .ensures) (r .a .given .0 .0) (r .a .given .1)
 
 returns-2 : tie.Need-returns-2
 unfolding octetsSplit
 returns-2 c =
     let r = c .before .before in
     c .as-network-host2 .ensures
-    ∙ when-refused _ _ _ noAddress (r .e .given .0 .0) (ap readingAnswer (sym (r .e .given .1)) ∙ r .before .before .read-octets .ensures)
+    ∙ reading-refused _ _ _ _ (r .before .before .read-octets .ensures) (r .e .given .0 .0) (r .e .given .1)
 
 pub nibharrow-split-spec : {M : Type 1} → statement M
 nibharrow-split-spec =

@@ -1,8 +1,7 @@
 -- `nibharrow::nibharrow_write_block` meets its contract. Assumes nothing.
-use mathlib.Core.Path.{refl, sym, ap, _∙_}
-use Rattle.address.specs.Answers.{noAddress, readingAnswer}
+use mathlib.Core.Path.{refl, _∙_}
 use Rattle.interface.specs.Interface.{blockWritten}
-use Rattle.interface.proofs.InterfaceLaws.{both, wrote, when-given, when-refused, length-cut}
+use Rattle.interface.proofs.InterfaceLaws.{both, wrote, reading-given, reading-refused, length-cut}
 use borrow.Author.Needs.{needs}
 use Rattle.nibharrow.proofs.nibharrow_write_block.Statement.{statement}
 use Rattle.nibharrow.proofs.nibharrow_write_block.Tie as tie
@@ -38,14 +37,14 @@ returns c =
     let r = w .before .before .before .before in
     wrote _ _ _ (c .as-written .ensures) (w .write-block .ensures)
     ∙ length-cut (r .a .given .0 .0) _ _ _ (w .before .before .as-byte .ensures)
-    ∙ when-given _ _ _ (r .a .given .0 .0) (ap readingAnswer (sym (r .a .given .1)) ∙ r .before .before .read-octets .ensures)
+    ∙ reading-given _ _ _ _ (r .before .before .read-octets .ensures) (r .a .given .0 .0) (r .a .given .1)
 
 returns-2 : tie.Need-returns-2
 unfolding blockWritten
 returns-2 c =
     let r = c .before .before in
     both (c .refused .ensures) refl
-    ∙ when-refused _ _ _ noAddress (r .e .given .0 .0) (ap readingAnswer (sym (r .e .given .1)) ∙ r .before .before .read-octets .ensures)
+    ∙ reading-refused _ _ _ _ (r .before .before .read-octets .ensures) (r .e .given .0 .0) (r .e .given .1)
 
 pub nibharrow-write-block-spec : {M : Type 1} → statement M
 nibharrow-write-block-spec =

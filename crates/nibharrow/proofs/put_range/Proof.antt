@@ -1,8 +1,7 @@
 -- `nibharrow::put_range` meets its contract. Assumes nothing.
-use mathlib.Core.Path.{refl, sym, ap, _∙_}
-use Rattle.address.specs.Answers.{noAddress, readingAnswer}
+use mathlib.Core.Path.{refl, _∙_}
 use Rattle.interface.specs.Interface.{rangeTo}
-use Rattle.interface.proofs.InterfaceLaws.{both, when-given, when-refused}
+use Rattle.interface.proofs.InterfaceLaws.{both, reading-given, reading-refused}
 use borrow.Author.Needs.{needs}
 use Rattle.nibharrow.proofs.put_range.Statement.{statement}
 use Rattle.nibharrow.proofs.put_range.Tie as tie
@@ -31,13 +30,13 @@ returns c =
     let w = c .before .before .before in
     let r = w .before .before .before in
     both (c .as-range-written .ensures ∙ w .range-blocks .ensures .0) (w .range-blocks .ensures .1)
-    ∙ when-given _ _ _ (r .last .given .0 .0) (ap readingAnswer (sym (r .last .given .1)))
+    ∙ reading-given _ _ _ _ refl (r .last .given .0 .0) (r .last .given .1)
 
 returns-2 : tie.Need-returns-2
 unfolding rangeTo
 returns-2 c =
     let r = c .before .before in
-    both (c .as-range-written2 .ensures) refl ∙ when-refused _ _ _ noAddress (r .last2 .given .0 .0) (ap readingAnswer (sym (r .last2 .given .1)))
+    both (c .as-range-written2 .ensures) refl ∙ reading-refused _ _ _ _ refl (r .last2 .given .0 .0) (r .last2 .given .1)
 
 pub put-range-spec : {M : Type 1} → statement M
 put-range-spec =

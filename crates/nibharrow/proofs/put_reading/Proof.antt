@@ -1,8 +1,7 @@
 -- `nibharrow::put_reading` meets its contract. Assumes nothing.
-use mathlib.Core.Path.{refl, sym, ap, _∙_}
-use Rattle.address.specs.Answers.{noAddress, readingAnswer}
+use mathlib.Core.Path.{refl, _∙_}
 use Rattle.interface.specs.Interface.{addressInto}
-use Rattle.interface.proofs.InterfaceLaws.{both, wrote, when-given, when-refused}
+use Rattle.interface.proofs.InterfaceLaws.{both, wrote, reading-given, reading-refused}
 use borrow.Author.Needs.{needs}
 use Rattle.nibharrow.proofs.put_reading.Statement.{statement}
 use Rattle.nibharrow.proofs.put_reading.Tie as tie
@@ -31,13 +30,13 @@ returns c =
     let w = c .before .before .before in
     let r = w .before .before .before in
     wrote _ _ _ (c .as-written .ensures) (w .write-octets .ensures)
-    ∙ when-given _ _ _ (r .reading .given .0 .0) (ap readingAnswer (sym (r .reading .given .1)))
+    ∙ reading-given _ _ _ _ refl (r .reading .given .0 .0) (r .reading .given .1)
 
 returns-2 : tie.Need-returns-2
 unfolding addressInto
 returns-2 c =
     let r = c .before .before in
-    both (c .refused .ensures) refl ∙ when-refused _ _ _ noAddress (r .reading2 .given .0 .0) (ap readingAnswer (sym (r .reading2 .given .1)))
+    both (c .refused .ensures) refl ∙ reading-refused _ _ _ _ refl (r .reading2 .given .0 .0) (r .reading2 .given .1)
 
 pub put-reading-spec : {M : Type 1} → statement M
 put-reading-spec =
