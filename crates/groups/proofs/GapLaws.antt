@@ -1,66 +1,27 @@
--- The first `::` of a text, and the groups beside it. Assumes nothing.
-use mathlib.Core.Path.{_≡_, refl, ap, _∙_}
-use mathlib.Core.Bool.{Bool, true, false, cond, _&&_, and-false}
-use mathlib.Core.List.{List, [], _∷_, _++_, append-assoc, append-nil}
+-- The first `::` of a text, and the groups before it. Assumes nothing.
+use mathlib.Core.Path.{_≡_, refl, sym, ap, ap₂, _∙_}
+use mathlib.Core.Bool.{Bool, true, false, cond, _&&_}
+use mathlib.Core.List.{List, [], _∷_}
 use mathlib.Core.Option.{Option, some, none}
 use Prim.Native.Nat.{ℕ, zero, suc, _+_, _-_, _≤_, _<_}
-use native.Mathlib.Nat.{zero-add}
 use native.Mathlib.Numerals.{add-one}
 use native.Mathlib.Decide.{decLt}
 use native.Mathlib.Omega.{arith}
-use borrow.Author.Tests.{eq-eqb, ne-eqb, le-leb, lt-leb, leb-false, lt-ltb, le-ltb}
+use borrow.Author.Tests.{eq-eqb, ne-eqb, le-leb, lt-leb}
 use lib.Dec.{eqb, leb}
-use lib.ListN.{length, take, drop, getD, replicate, length-take, length-drop, length-append, drop-of-length-le, length-replicate, replicate-append-replicate}
-use lib.Seq.{drop-cons, take-all, take-at, drop-at, paste, take-append-add}
-use Rattle.digits.proofs.SliceLaws.{to-end}
-use Rattle.groups.specs.Inner.{upTo8}
-use Rattle.groups.specs.EightGroups.{sideOf, gapOf, filled, eight, eightOf}
-use Rattle.groups.proofs.GroupLaws.{holding}
+use lib.ListN.{length, take, drop, getD, length-drop}
+use lib.Seq.{take-all, take-take, take-add, drop-at, length-take-le}
+use Rattle.digits.specs.declared.read.Leading.the-variants.{Number, Nothing}
+use Rattle.digits.specs.Numerals.{groupOf, leading}
+use Rattle.digits.specs.Pieces.{indexOf, splitOn}
+use Rattle.digits.proofs.PieceLaws.{index-contains, split-last, group-reads, piece-nothing, piece-last, piece-more, piece-other}
+use Rattle.dotted.specs.Dotted.{joined, single, dottedOf}
+use Rattle.groups.specs.Inner.{colonFirst, gapFirst, firstSide}
+use Rattle.groups.specs.EightGroups.{tailOf, piecesOf, gapOf}
+use Rattle.groups.proofs.ColonLaws.{colon-not-dotted}
+use Rattle.groups.proofs.GroupLaws.{joined-none, colon, several, colon-pieces, pieces-tail, split-some}
 
-module _ (s : List ℕ) (i : ℕ) (h : i + 1 < length s) where
-  two-bytes : drop i s ≡ getD s i 0 ∷ getD s (i + 1) 0 ∷ drop (i + 1 + 1) s
-  two-bytes =
-      let a : i < length s = omega arith in
-      drop-cons s i 0 a ∙ rw (add-one (i + 1), ← add-one i) (ap (λ l. getD s i 0 ∷ l) (drop-cons s (i + 1) 0 h))
-
-  pub gap-found : getD s i 0 ≡ 58 → getD s (i + 1) 0 ≡ 58 → gapOf (drop i s) ≡ 0
-  unfolding gapOf
-  gap-found p q = rw two-bytes (simp (eq-eqb _ _ p, eq-eqb _ _ q))
-
-  one-byte : drop (i + 1) s ≡ getD s (i + 1) 0 ∷ drop (i + 1 + 1) s
-  one-byte = rw (add-one (i + 1)) (drop-cons s (i + 1) 0 h)
-
-  pub gap-first : (getD s i 0 ≡ 58 → ⊥) → gapOf (drop i s) ≡ suc (gapOf (drop (i + 1) s))
-  unfolding gapOf
-  gap-first n = rw (two-bytes, one-byte) (simp (ne-eqb _ _ n))
-
-  pub gap-second : (getD s (i + 1) 0 ≡ 58 → ⊥) → gapOf (drop i s) ≡ suc (gapOf (drop (i + 1) s))
-  unfolding gapOf
-  gap-second n = rw (two-bytes, one-byte) (simp (ne-eqb _ _ n, and-false))
-
-pub gap-end : (s : List ℕ) (i : ℕ) → i ≤ length s → length s ≤ i + 1 → i + gapOf (drop i s) ≡ length s
-unfolding gapOf
-gap-end s i h k = go (decLt i (length s))
-  where
-    go : Dec (i < length s) → i + gapOf (drop i s) ≡ length s
-    go (yes l) =
-        let e : length s ≤ suc i = omega arith in
-        rw (drop-cons s i 0 l, drop-of-length-le s e) (omega arith)
-    go (no n) =
-        let e : length s ≤ i = omega arith in
-        rw (drop-of-length-le s e) (omega arith)
-
--- where there is a `::`, there are two bytes
-pub gap-two : (s : List ℕ) → gapOf s < length s → gapOf s + 2 ≤ length s
-unfolding gapOf
-gap-two [] h = absurd (omega arith)
-gap-two (x ∷ []) h = absurd (omega arith)
-gap-two (x ∷ y ∷ t) h = go (eqb x 58 && eqb y 58) h (gap-two (y ∷ t))
-  where
-    go : (b : Bool) → cond b zero (suc (gapOf (y ∷ t))) < suc (suc (length t))
-        → (gapOf (y ∷ t) < suc (length t) → gapOf (y ∷ t) + 2 ≤ suc (length t)) → cond b zero (suc (gapOf (y ∷ t))) + 2 ≤ suc (suc (length t))
-    go true k ih = omega arith
-    go false k ih = omega (arith, ih (omega arith))
+-- ---- the first colon and the first `::`
 
 pub gap-le : (s : List ℕ) → gapOf s ≤ length s
 unfolding gapOf
@@ -72,100 +33,240 @@ gap-le (x ∷ y ∷ t) = go (eqb x 58 && eqb y 58) (gap-le (y ∷ t))
     go true ih = omega arith
     go false ih = omega arith
 
--- too many groups beside `::`
-module _ (a b : ℕ) (l r : List ℕ) (el : length l ≡ 8) (er : length r ≡ 8) where
-  pub fill-over : (p q : Bool) → 7 < a + b → filled (holding p a l) (holding q b r) ≡ none
-  fill-over true true h = rw (lt-leb (length (take a l) + length (take b r)) 7 (omega (arith, length-take a l, length-take b r)))
-  fill-over true false h = refl
-  fill-over false true h = refl
-  fill-over false false h = refl
-
-abbrev zeros : ℕ → List ℕ
-zeros n = replicate n 0
-
-some-zeros : (a k n : ℕ) → a + k ≤ n → take k (drop a (zeros n)) ≡ zeros k
-some-zeros a k n h =
-    let m = n - a - k in
-    let e : n ≡ a + (k + m) = omega arith in
-    rw (
-      e,
-      ← replicate-append-replicate {A = ℕ} a (k + m) 0,
-      drop-at (zeros a) (zeros (k + m)) a (length-replicate {A = ℕ} a 0),
-      ← replicate-append-replicate {A = ℕ} k m 0,
-    ) (take-at (zeros k) (zeros m) k (length-replicate {A = ℕ} k 0))
-
-pub filled-none : (o : Option (List ℕ)) → filled o none ≡ none
-filled-none none = refl
-filled-none (some xs) = refl
-
-module _ (a b : ℕ) (l r : List ℕ) (el : length l ≡ 8) (er : length r ≡ 8) (h : a + b ≤ 7) where
-  begun-is : paste (zeros 8) 0 l a ≡ take a l ++ drop a (zeros 8)
-  begun-is = rw (zero-add a)
-
-  -- the left groups and the zeros
-  front : take (8 - b) (paste (zeros 8) 0 l a) ≡ take a l ++ zeros (8 - (a + b))
-  front =
-      let e : 8 - b ≡ length (take a l) + (8 - (a + b)) = omega (arith, length-take a l) in
-      rw (begun-is, e, take-append-add (take a l) (drop a (zeros 8)) (8 - (a + b))) (rw (some-zeros a (8 - (a + b)) 8 (omega arith)))
-
-  back : drop (8 - b + b) (paste (zeros 8) 0 l a) ≡ []
-  back =
-      let k : length (take a l ++ drop a (zeros 8)) ≤ 8 - b + b = omega (arith, length-append (take a l) (drop a (zeros 8)), length-take a l, length-drop a (zeros 8)) in
-      rw begun-is (drop-of-length-le (take a l ++ drop a (zeros 8)) k)
-
-  pub fill-room : some (paste (paste (zeros 8) 0 l a) (8 - b) r b) ≡ filled (some (take a l)) (some (take b r))
-  fill-room =
-      let x : length (take a l) ≡ a = omega (arith, length-take a l) in
-      let y : length (take b r) ≡ b = omega (arith, length-take b r) in
-      rw (x, y, le-leb (a + b) 7 h) (ap some (rw (front, back) (append-nil _ ∙ append-assoc (take a l) (zeros (8 - (a + b))) (take b r))))
-
--- eight groups, or none, go through `upTo8`
-pub filled-up-to : (a b : Option (List ℕ)) → filled (upTo8 a) (upTo8 b) ≡ filled a b
-filled-up-to none b = refl
-filled-up-to (some xs) none = go (leb (length xs) 8)
+index-gap : (t : List ℕ) → indexOf 58 t ≤ gapOf t
+unfolding indexOf gapOf
+index-gap [] = omega arith
+index-gap (x ∷ []) = elim (eqb x 58) as (λ b. cond b zero (suc zero) ≤ suc zero) [ true ↦ omega arith | false ↦ omega arith ]
+index-gap (x ∷ y ∷ t) = go (eqb x 58) (index-gap (y ∷ t))
   where
-    go : (t : Bool) → filled (cond t (some xs) none) none ≡ none
-    go true = refl
-    go false = refl
-filled-up-to (some xs) (some ys) = go (leb (length xs) 8) (leb (length ys) 8) refl refl
+    go : (b : Bool) → indexOf 58 (y ∷ t) ≤ gapOf (y ∷ t) → cond b zero (suc (indexOf 58 (y ∷ t))) ≤ cond (b && eqb y 58) zero (suc (gapOf (y ∷ t)))
+    go true ih = omega arith
+    go false ih = omega arith
+
+-- behind the first colon stands no other
+gap-more : (t : List ℕ) → indexOf 58 t < length t → colonFirst (drop (suc (indexOf 58 t)) t) ≡ false
+    → gapOf t ≡ suc (indexOf 58 t) + gapOf (drop (suc (indexOf 58 t)) t)
+unfolding indexOf gapOf colonFirst
+gap-more [] h e = absurd (omega arith)
+gap-more (x ∷ []) h e = go (eqb x 58) h
   where
-    go : (t u : Bool) → leb (length xs) 8 ≡ t → leb (length ys) 8 ≡ u → filled (cond t (some xs) none) (cond u (some ys) none) ≡ filled (some xs) (some ys)
-    go true true p q = refl
-    go true false p q = rw (lt-leb (length xs + length ys) 7 (omega (arith, leb-false (length ys) 8 q)))
-    go false true p q = rw (lt-leb (length xs + length ys) 7 (omega (arith, leb-false (length xs) 8 p)))
-    go false false p q = rw (lt-leb (length xs + length ys) 7 (omega (arith, leb-false (length xs) 8 p)))
-
-eight-up-to : (a : Option (List ℕ)) → eight (upTo8 a) ≡ eight a
-eight-up-to none = refl
-eight-up-to (some xs) = go (leb (length xs) 8) refl
+    go : (b : Bool) → cond b zero (suc zero) < suc zero → suc zero ≡ suc (cond b zero (suc zero)) + gapOf (drop (suc (cond b zero (suc zero))) (x ∷ []))
+    go true h = refl
+    go false h = absurd (omega arith)
+gap-more (x ∷ y ∷ t) h e = go (eqb x 58) h e (gap-more (y ∷ t))
   where
-    go : (t : Bool) → leb (length xs) 8 ≡ t → eight (cond t (some xs) none) ≡ eight (some xs)
-    go true p = refl
-    go false p = rw (ne-eqb (length xs) 8 (omega (arith, leb-false (length xs) 8 p)))
+    go : (b : Bool) → cond b zero (suc (indexOf 58 (y ∷ t))) < suc (suc (length t)) → colonFirst (drop (suc (cond b zero (suc (indexOf 58 (y ∷ t))))) (x ∷ y ∷ t)) ≡ false
+        → (indexOf 58 (y ∷ t) < suc (length t) → colonFirst (drop (suc (indexOf 58 (y ∷ t))) (y ∷ t)) ≡ false → gapOf (y ∷ t) ≡ suc (indexOf 58 (y ∷ t)) + gapOf (drop (suc (indexOf 58 (y ∷ t))) (y ∷ t)))
+        → cond (b && eqb y 58) zero (suc (gapOf (y ∷ t))) ≡ suc (cond b zero (suc (indexOf 58 (y ∷ t)))) + gapOf (drop (suc (cond b zero (suc (indexOf 58 (y ∷ t))))) (x ∷ y ∷ t))
+    go true h e ih = ap (λ b. cond b zero (suc (gapOf (y ∷ t)))) e ∙ omega arith
+    go false h e ih = omega (arith, ih (omega arith) e)
 
-module _ (n : ℕ) (gs : List ℕ) (e : length gs ≡ 8) (a : Option (List ℕ)) where
-  -- eight places that are full
-  pub eight-full : (ok : Bool) → 8 ≤ n → holding ok n gs ≡ upTo8 a → cond ok (some gs) none ≡ eight a
-  eight-full true h p =
-      let k : length gs ≤ n = omega arith in
-      rw (← eight-up-to a, ← p, take-all n gs k) (rw (eq-eqb (length gs) 8 e))
-  eight-full false h p = rw (← eight-up-to a, ← p)
+-- behind the first colon stands another
+gap-here : (t : List ℕ) → indexOf 58 t < length t → colonFirst (drop (suc (indexOf 58 t)) t) ≡ true → gapOf t ≡ indexOf 58 t
+unfolding indexOf gapOf colonFirst
+gap-here [] h e = absurd (omega arith)
+gap-here (x ∷ []) h e = go (eqb x 58) h e
+  where
+    go : (b : Bool) → cond b zero (suc zero) < suc zero → colonFirst (drop (suc (cond b zero (suc zero))) (x ∷ [])) ≡ true → suc zero ≡ cond b zero (suc zero)
+    go true h e = let z : _≡_ {A = ℕ} 0 1 = cc in absurd (omega arith)
+    go false h e = refl
+gap-here (x ∷ y ∷ t) h e = go (eqb x 58) h e (gap-here (y ∷ t))
+  where
+    go : (b : Bool) → cond b zero (suc (indexOf 58 (y ∷ t))) < suc (suc (length t)) → colonFirst (drop (suc (cond b zero (suc (indexOf 58 (y ∷ t))))) (x ∷ y ∷ t)) ≡ true
+        → (indexOf 58 (y ∷ t) < suc (length t) → colonFirst (drop (suc (indexOf 58 (y ∷ t))) (y ∷ t)) ≡ true → gapOf (y ∷ t) ≡ indexOf 58 (y ∷ t))
+        → cond (b && eqb y 58) zero (suc (gapOf (y ∷ t))) ≡ cond b zero (suc (indexOf 58 (y ∷ t)))
+    go true h e ih = ap (λ b. cond b zero (suc (gapOf (y ∷ t)))) e
+    go false h e ih = ap suc (ih (omega arith) e)
 
-  -- eight places that are not
-  pub eight-short : (ok : Bool) → n < 8 → holding ok n gs ≡ upTo8 a → eight a ≡ none
-  eight-short true h p = rw (← eight-up-to a, ← p) (rw (ne-eqb (length (take n gs)) 8 (omega (arith, length-take n gs))))
-  eight-short false h p = rw (← eight-up-to a, ← p)
+index-take : (b k : ℕ) (t : List ℕ) → indexOf b t ≤ k → k ≤ length t → indexOf b (take k t) ≡ indexOf b t
+unfolding indexOf
+index-take b zero t h l = omega arith
+index-take b (suc k) [] h l = absurd (omega arith)
+index-take b (suc k) (c ∷ t) h l = go (eqb c b) h (index-take b k t)
+  where
+    go : (e : Bool) → cond e zero (suc (indexOf b t)) ≤ suc k → (indexOf b t ≤ k → k ≤ length t → indexOf b (take k t) ≡ indexOf b t)
+        → cond e zero (suc (indexOf b (take k t))) ≡ cond e zero (suc (indexOf b t))
+    go true h ih = refl
+    go false h ih = ap suc (ih (omega arith) (omega arith))
 
-module _ (t : List ℕ) (i : ℕ) (e : i ≡ gapOf t) where
-  pub eight-gap : i < length t
-      → filled (upTo8 (sideOf false (take i t))) (upTo8 (sideOf true (take (length t - (i + 2)) (drop (i + 2) t)))) ≡ eightOf t
-  unfolding eightOf
-  eight-gap h =
-      let k : gapOf t < length t = omega arith in
-      rw (to-end (i + 2) t, e, filled-up-to (sideOf false (take (gapOf t) t)) (sideOf true (drop (gapOf t + 2) t)), lt-ltb (gapOf t) (length t) k)
+-- a text that begins with `::`, and one that does not
+pub first-zero : (t : List ℕ) → gapFirst t ≡ true → (gapOf t ≡ 0) × (2 ≤ length t)
+unfolding gapFirst gapOf
+first-zero [] e = let z : _≡_ {A = ℕ} 0 1 = cc in absurd (omega arith)
+first-zero (x ∷ []) e = let z : _≡_ {A = ℕ} 0 1 = cc in absurd (omega arith)
+first-zero (x ∷ y ∷ t) e = (rw e, omega arith)
 
-  pub eight-no-gap : length t ≤ i → eight (sideOf true t) ≡ eightOf t
-  unfolding eightOf
-  eight-no-gap h =
-      let k : length t ≤ gapOf t = omega arith in
-      rw (le-ltb (gapOf t) (length t) k)
+pub first-pos : (t : List ℕ) → gapFirst t ≡ false → gapOf t < length t → 0 < gapOf t
+unfolding gapFirst gapOf
+first-pos [] e h = absurd (omega arith)
+first-pos (x ∷ []) e h = omega arith
+first-pos (x ∷ y ∷ t) e h = rw e (omega arith)
+
+-- both its colons are there
+pub gap-two : (t : List ℕ) → gapOf t < length t → gapOf t + 2 ≤ length t
+unfolding gapOf
+gap-two [] h = absurd (omega arith)
+gap-two (x ∷ []) h = absurd (omega arith)
+gap-two (x ∷ y ∷ t) h = go (eqb x 58 && eqb y 58) h (gap-two (y ∷ t))
+  where
+    go : (b : Bool) → cond b zero (suc (gapOf (y ∷ t))) < suc (suc (length t)) → (gapOf (y ∷ t) < suc (length t) → gapOf (y ∷ t) + 2 ≤ suc (length t))
+        → cond b zero (suc (gapOf (y ∷ t))) + 2 ≤ suc (suc (length t))
+    go true h ih = omega arith
+    go false h ih = omega (arith, ih (omega arith))
+
+-- a text with `::` has an empty piece, which is no group
+pub gap-pieces : (d : Bool) (n : ℕ) (t : List ℕ) → length t ≤ n → gapOf t < length t → piecesOf d (splitOn 58 t) ≡ none
+gap-pieces d zero t l h = absurd (omega arith)
+gap-pieces d (suc n) t l h = several d t inside ∙ ap (joined first) (go (colonFirst rest) refl (gap-pieces d n rest)) ∙ joined-none first
+  where
+    first : Option (List ℕ)
+    first = single (groupOf (take (indexOf 58 t) t))
+
+    rest : List ℕ
+    rest = drop (indexOf 58 t + 1) t
+
+    inside : indexOf 58 t < length t
+    inside = omega (arith, index-gap t)
+
+    go : (b : Bool) → colonFirst rest ≡ b → (length rest ≤ n → gapOf rest < length rest → piecesOf d (splitOn 58 rest) ≡ none) → piecesOf d (splitOn 58 rest) ≡ none
+    go true q ih = colon-pieces d rest q
+    go false q ih =
+        let r : drop (suc (indexOf 58 t)) t ≡ rest = ap (λ k. drop k t) (sym (add-one (indexOf 58 t))) in
+        let g : gapOf t ≡ suc (indexOf 58 t) + gapOf rest = gap-more t inside (ap colonFirst r ∙ q) ∙ ap (λ s. suc (indexOf 58 t) + gapOf s) r in
+        ih (omega (arith, length-drop (indexOf 58 t + 1) t)) (omega (arith, length-drop (indexOf 58 t + 1) t))
+
+-- ---- the groups before it
+
+drop-take : (n m : ℕ) (t : List ℕ) → n ≤ length t → drop n (take (n + m) t) ≡ take m (drop n t)
+drop-take n m t h = rw (take-add n m t) (drop-at (take n t) (take m (drop n t)) n (length-take-le n t h))
+
+module _ (t : List ℕ) where
+  -- with and without `::`
+  pub first-part : gapOf t < length t → firstSide t ≡ piecesOf false (splitOn 58 (take (gapOf t) t))
+  unfolding firstSide
+  first-part h = ap (λ b. piecesOf b (splitOn 58 (take (gapOf t) t))) (lt-leb (length t) (gapOf t) h)
+
+  pub first-whole : length t ≤ gapOf t → firstSide t ≡ piecesOf true (splitOn 58 t)
+  unfolding firstSide
+  first-whole h = ap₂ (λ b u. piecesOf b (splitOn 58 u)) (le-leb (length t) (gapOf t) h) (take-all (gapOf t) t h)
+
+  pub first-some : (ys : List ℕ) → firstSide t ≡ some ys → 0 < length ys
+  unfolding firstSide
+  first-some ys = split-some (leb (length t) (gapOf t)) (take (gapOf t) t) ys
+
+  -- the first piece is that of the text before `::`
+  front : take (indexOf 58 (take (gapOf t) t)) (take (gapOf t) t) ≡ take (indexOf 58 t) t
+  front = rw (index-take 58 (gapOf t) t (index-gap t) (gap-le t)) (take-take (indexOf 58 t) (gapOf t) t (index-gap t))
+
+  -- the first piece is no group: all of the text is an IPv4 text, or it is wrong
+  first-tail : groupOf (take (indexOf 58 t) t) ≡ none → firstSide t ≡ tailOf t
+  unfolding tailOf
+  first-tail e = elim (decLt (gapOf t) (length t)) [
+    | yes h ↦
+        let d : dottedOf t ≡ none = colon-not-dotted t (index-contains 58 t (omega (arith, index-gap t))) in
+        first-part h ∙ pieces-tail false (take (gapOf t) t) (ap groupOf front ∙ e) ∙ sym (rw d)
+    | no n ↦ first-whole (omega arith) ∙ pieces-tail true t e
+  ]
+
+  pub first-nothing : Nothing ≡ leading 16 groupOf t → firstSide t ≡ tailOf t
+  first-nothing h = first-tail (piece-nothing 16 58 colon groupOf group-reads t h)
+
+  -- an IPv4 text has no `::`
+  pub tail-gap : (ys : List ℕ) → tailOf t ≡ some ys → length t ≤ gapOf t
+  unfolding tailOf
+  tail-gap ys e = elim (decLt (gapOf t) (length t)) [
+    | yes h ↦ let d = colon-not-dotted t (index-contains 58 t (omega (arith, index-gap t))) in let z : _≡_ {A = ℕ} 0 1 = cc in absurd (omega arith)
+    | no n ↦ omega arith
+  ]
+
+  module _ (x e : ℕ) (h : Number x e ≡ leading 16 groupOf t) where
+    pub first-other : e < length t → (getD t e 0 ≡ 58 → ⊥) → firstSide t ≡ tailOf t
+    first-other l n = first-tail (piece-other 16 58 colon groupOf group-reads t x e h l n)
+
+    pub first-last : length t ≤ e → (firstSide t ≡ some (x ∷ [])) × (length t ≤ gapOf t)
+    unfolding piecesOf
+    first-last l =
+        let p = piece-last 16 58 colon groupOf group-reads t x e h l in
+        let whole : groupOf t ≡ some x = ap groupOf (sym (take-all (indexOf 58 t) t (omega (arith, p .1)))) ∙ p .0 in
+        let long : length t ≤ gapOf t = omega (arith, p .1, index-gap t) in
+        (first-whole long ∙ rw (split-last 58 t (omega (arith, p .1)), whole), long)
+
+    module _ (l : e < length t) (c : getD t e 0 ≡ 58) where
+      piece : (groupOf (take (indexOf 58 t) t) ≡ some x) × (indexOf 58 t ≡ e)
+      piece = piece-more 16 58 colon groupOf group-reads t x e h l c
+
+      inside : indexOf 58 t < length t
+      inside = omega (arith, piece .1)
+
+      behind : drop (suc (indexOf 58 t)) t ≡ drop (e + 1) t
+      behind = let i : suc (indexOf 58 t) ≡ e + 1 = omega (arith, piece .1) in ap (λ k. drop k t) i
+
+      whole : groupOf (take e t) ≡ some x
+      whole = ap (λ k. groupOf (take k t)) (sym (piece .1)) ∙ piece .0
+
+      -- `::` behind the group
+      pub first-gap : colonFirst (drop (e + 1) t) ≡ true → (firstSide t ≡ some (x ∷ [])) × (gapOf t ≡ e)
+      unfolding piecesOf
+      first-gap f =
+          let g : gapOf t ≡ e = gap-here t inside (ap colonFirst behind ∙ f) ∙ piece .1 in
+          let i : indexOf 58 (take e t) ≡ indexOf 58 t = index-take 58 e t (omega (arith, piece .1)) (omega arith) in (
+            first-part (omega arith) ∙ ap (λ k. piecesOf false (splitOn 58 (take k t))) g
+                ∙ rw (split-last 58 (take e t) (omega (arith, i, piece .1, length-take-le e t (omega arith))), whole),
+            g,
+          )
+
+      -- a colon behind the group
+      part-more : (d : Bool) (m : ℕ) → e + 1 + m ≤ length t → piecesOf d (splitOn 58 (take (e + 1 + m) t)) ≡ joined (some (x ∷ [])) (piecesOf d (splitOn 58 (take m (drop (e + 1) t))))
+      part-more d m k =
+          let u = take (e + 1 + m) t in
+          let i : indexOf 58 u ≡ e = index-take 58 (e + 1 + m) t (omega (arith, piece .1)) k ∙ piece .1 in
+          several d u (omega (arith, i, length-take-le (e + 1 + m) t k))
+          ∙ ap (λ k. joined (single (groupOf (take k u))) (piecesOf d (splitOn 58 (drop (k + 1) u)))) i
+          ∙ ap₂ (λ o v. joined (single o) (piecesOf d (splitOn 58 v))) (ap groupOf (take-take e (e + 1 + m) t (omega arith)) ∙ whole) (drop-take (e + 1) m t (omega arith))
+
+      pub first-more : colonFirst (drop (e + 1) t) ≡ false → (firstSide t ≡ joined (some (x ∷ [])) (firstSide (drop (e + 1) t))) × (gapOf t ≡ e + 1 + gapOf (drop (e + 1) t))
+      unfolding firstSide
+      first-more f =
+          let r = drop (e + 1) t in
+          let g : gapOf t ≡ e + 1 + gapOf r = gap-more t inside (ap colonFirst behind ∙ f) ∙ ap (λ s. suc (indexOf 58 t) + gapOf s) behind ∙ omega (arith, piece .1) in
+          let long : length r ≡ length t - (e + 1) = length-drop (e + 1) t in
+          let same : leb (length t) (gapOf t) ≡ leb (length r) (gapOf r) = elim (decLt (gapOf r) (length r)) [
+            | yes h ↦ lt-leb (length t) (gapOf t) (omega arith) ∙ sym (lt-leb (length r) (gapOf r) h)
+            | no n ↦ le-leb (length t) (gapOf t) (omega arith) ∙ sym (le-leb (length r) (gapOf r) (omega arith))
+          ] in
+          (ap₂ (λ b k. piecesOf b (splitOn 58 (take k t))) same g ∙ part-more (leb (length r) (gapOf r)) (gapOf r) (omega (arith, gap-le r)), g)
+
+-- ---- the first bytes, as the code looks at them
+
+pub colon-none : (t : List ℕ) → length t ≡ 0 → false ≡ colonFirst t
+unfolding colonFirst
+colon-none [] h = refl
+colon-none (x ∷ t) h = absurd (omega arith)
+
+pub colon-first : (t : List ℕ) → (length t ≡ 0 → ⊥) → eqb (getD t 0 0) 58 ≡ colonFirst t
+unfolding colonFirst
+colon-first [] h = absurd (h refl)
+colon-first (x ∷ t) h = refl
+
+pub colon-some : (t : List ℕ) → colonFirst t ≡ true → 1 ≤ length t
+unfolding colonFirst
+colon-some [] e = let z : _≡_ {A = ℕ} 0 1 = cc in absurd (omega arith)
+colon-some (x ∷ t) e = omega arith
+
+pub gap-short : (t : List ℕ) → length t < 2 → false ≡ gapFirst t
+unfolding gapFirst
+gap-short [] h = refl
+gap-short (x ∷ []) h = refl
+gap-short (x ∷ y ∷ t) h = absurd (omega arith)
+
+pub gap-other : (t : List ℕ) → 2 ≤ length t → (getD t 0 0 ≡ 58 → ⊥) → false ≡ gapFirst t
+unfolding gapFirst
+gap-other [] h n = absurd (omega arith)
+gap-other (x ∷ []) h n = absurd (omega arith)
+gap-other (x ∷ y ∷ t) h n = sym (rw (ne-eqb x 58 n))
+
+pub gap-both : (t : List ℕ) → 2 ≤ length t → getD t 0 0 ≡ 58 → eqb (getD t 1 0) 58 ≡ gapFirst t
+unfolding gapFirst
+gap-both [] h n = absurd (omega arith)
+gap-both (x ∷ []) h n = absurd (omega arith)
+gap-both (x ∷ y ∷ t) h n = sym (rw (eq-eqb x 58 n))

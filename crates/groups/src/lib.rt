@@ -1,17 +1,17 @@
 // The eight groups of IPv6 text, read.
 ghost use mathlib.Core.Path.{_≡_};
-ghost use mathlib.Core.Bool.{cond};
-ghost use mathlib.Core.List.{[], _∷_};
-ghost use mathlib.Core.Option.{some, none};
-ghost use Prim.Native.Nat.{_+_, _≤_};
-ghost use lib.Seq.{paste};
+ghost use mathlib.Core.Bool.{true};
+ghost use mathlib.Core.List.{List};
+ghost use mathlib.Core.Option.{Option, some};
+ghost use Prim.Native.Nat.{ℕ, _≤_, _<_};
+ghost use lib.ListN.{length, take, getD};
 ghost use Rattle.dotted.specs.Dotted.{joined};
-ghost use Rattle.groups.specs.Inner.{upTo8, held, places};
-ghost use Rattle.groups.specs.EightGroups.{tailOf, sideOf, gapOf, filled, eightOf, asEight};
+ghost use Rattle.groups.specs.Inner.{HoldsGroups, ReadsSide, LaidOut, colonFirst, gapFirst, expanded};
+ghost use Rattle.groups.specs.EightGroups.{tailOf, sideOf, filled, eight, eightOf, asEight};
 use digits::read::Leading;
-use digits::read::leading_group;
 use dotted::Dotted;
 use dotted::read_dotted;
+use hex_group::leading_group;
 
 // Eight groups, if `ok`; else all are zero.
 pub struct Eight {
@@ -19,176 +19,198 @@ pub struct Eight {
     pub groups: [u16; 8],
 }
 
-// The first `count` of eight groups, if `ok`.
-pub struct Groups {
-    pub ok: bool,
+// Where the groups that were read belong: the first `gap` of `count` at the front, the others at the end. A count of 9 is a refusal.
+pub struct Layout {
     pub count: usize,
-    pub groups: [u16; 8],
+    pub gap: usize,
 }
 
-fn no_groups() -> Groups
-    ensures { λ r. ⌜ (held r ≡ none) × (places r ≡ none) ⌝ }
+// What was read on one side of `::`: how many groups there are then, or 9, and the index behind `::`, or 0 where none was reached.
+pub struct Side {
+    pub count: usize,
+    pub next: usize,
+}
+
+// The layout of groups with no `::` among them.
+fn without_gap(count: usize) -> Layout
+    ensures { λ r. ⌜ ((gs : List ℕ) (o : Option (List ℕ)) → HoldsGroups gs count o → LaidOut gs r (eight o)) ⌝ }
 {
-    Groups {
-        ok: false,
-        count: 0,
-        groups: [0u16; 8],
+    if count == 8 {
+        return Layout { count: 8, gap: 8 };
     }
+    Layout { count: 9, gap: 0 }
 }
 
-// One group more, where there is room.
-fn with_group(g: Groups, x: u16) -> Groups
-    ensures { λ r. ⌜ held r ≡ upTo8 (joined (held g) (some (x ∷ []))) ⌝ }
+// The layout of groups with `::` behind the first `gap` of them.
+fn with_gap(count: usize, gap: usize) -> Layout
+    ensures { λ r. ⌜ ((gs xs : List ℕ) (o : Option (List ℕ)) → length xs ≡ gap → HoldsGroups gs count (joined (some xs) o) → LaidOut gs r (filled (some xs) o)) ⌝ }
 {
-    let at = g.count;
-    if 8 <= at {
-        return no_groups();
+    if 7 < count {
+        return Layout { count: 9, gap: 0 };
     }
-    let mut next = g;
-    next.groups[at] = x;
-    next.count = at + 1;
-    next
+    Layout { count, gap }
 }
 
-// Two groups more, of a strict IPv4 text where it is allowed.
-fn with_tail(g: Groups, text: &[u8], dotted: bool) -> Groups
-    ensures { λ r. ⌜ held r ≡ upTo8 (joined (held g) (cond dotted (tailOf (now (text .entry))) none)) ⌝ }
+// Puts the two groups of a strict IPv4 text behind the first `n`. Answers how many groups there are then, or 9.
+fn put_tail(text: &[u8], groups: &mut [u16; 8], n: usize) -> usize
+    requires { ⌜ (length (now groups) ≡ 8) × (n ≤ 8) ⌝ }
+    ensures { λ r. ⌜ HoldsGroups (now (groups .exit)) r (joined (some (take n (now (groups .entry)))) (tailOf (now (text .entry)))) ⌝ }
 {
-    if !dotted {
-        return no_groups();
+    if 6 < n {
+        return 9;
     }
     let Dotted::Value(v) = read_dotted(text) else {
-        return no_groups();
+        return 9;
     };
-    let next = with_group(g, (v / 65536) as u16);
-    with_group(next, (v % 65536) as u16)
+    groups[n] = (v / 65536) as u16;
+    groups[n + 1] = (v % 65536) as u16;
+    n + 2
 }
 
-// The groups on one side of `::`, with single colons between them; there may be none.
-fn read_side(text: &[u8], dotted: bool) -> Groups
-    ensures { λ r. ⌜ held r ≡ upTo8 (sideOf dotted (now (text .entry))) ⌝ }
+// Whether a text begins with a colon.
+fn starts_with_colon(text: &[u8]) -> bool
+    ensures { λ r. ⌜ r ≡ colonFirst (now (text .entry)) ⌝ }
 {
-    let mut g = Groups {
-        ok: true,
-        count: 0,
-        groups: [0u16; 8],
-    };
     if text.len() == 0 {
-        return g;
+        return false;
     }
+    text[0] == b':'
+}
+
+// Whether a text begins with `::`.
+fn starts_with_gap(text: &[u8]) -> bool
+    ensures { λ r. ⌜ r ≡ gapFirst (now (text .entry)) ⌝ }
+{
+    if text.len() < 2 {
+        return false;
+    }
+    if text[0] != b':' {
+        return false;
+    }
+    text[1] == b':'
+}
+
+// Puts the groups up to `::` or the end of the text behind the first `from`. One loop for both sides of `::`, so that the compiler
+// puts the reading of a group into it.
+fn read_side(text: &[u8], groups: &mut [u16; 8], from: usize) -> Side
+    requires { ⌜ (length (now groups) ≡ 8) × (from ≤ 8) ⌝ }
+    ensures { λ r. ⌜ ReadsSide (take from (now (groups .entry))) (now (groups .exit)) (now (text .entry)) r ⌝ }
+{
+    let mut n = from;
     let mut rest = text;
-    loop {
+    while n < 8 {
         let Leading::Number(x, end) = leading_group(rest) else {
-            return with_tail(g, rest, dotted);
+            let count = put_tail(rest, groups, n);
+            return Side { count, next: 0 };
         };
         if rest.len() <= end {
-            return with_group(g, x as u16);
+            groups[n] = x as u16;
+            return Side {
+                count: n + 1,
+                next: 0,
+            };
         }
         if rest[end] != b':' {
-            return with_tail(g, rest, dotted);
+            let count = put_tail(rest, groups, n);
+            return Side { count, next: 0 };
         }
-        g = with_group(g, x as u16);
-        let ok = g.ok;
-        if !ok {
-            return g;
-        }
+        groups[n] = x as u16;
+        n += 1;
         rest = &rest[end + 1..];
+        if starts_with_colon(rest) {
+            let next = text.len() - rest.len() + 1;
+            return Side { count: n, next };
+        }
     }
+    Side { count: 9, next: 0 }
 }
 
-// The index of the first `::`, or the length where there is none.
-fn find_gap(text: &[u8]) -> usize
-    ensures { λ r. ⌜ r ≡ gapOf (now (text .entry)) ⌝ }
+// Puts the groups to the right of `::` behind the first `from`. Answers how many groups there are then, or 9.
+fn read_right(text: &[u8], groups: &mut [u16; 8], from: usize) -> usize
+    requires { ⌜ (length (now groups) ≡ 8) × (from ≤ 8) ⌝ }
+    ensures { λ r. ⌜ HoldsGroups (now (groups .exit)) r (joined (some (take from (now (groups .entry)))) (sideOf true (now (text .entry)))) ⌝ }
 {
-    let n = text.len();
-    if n == 0 {
+    if text.len() == 0 {
+        return from;
+    }
+    let side = read_side(text, groups, from);
+    let next = side.next;
+    if 0 < next {
+        return 9;
+    }
+    side.count
+}
+
+// The groups of a strict IPv6 text, one after the other, and where they belong.
+fn read_groups(text: &[u8], groups: &mut [u16; 8]) -> Layout
+    requires { ⌜ length (now groups) ≡ 8 ⌝ }
+    ensures { λ r. ⌜ LaidOut (now (groups .exit)) r (eightOf (now (text .entry))) ⌝ }
+{
+    if starts_with_gap(text) {
+        return with_gap(read_right(&text[2..], groups, 0), 0);
+    }
+    let left = read_side(text, groups, 0);
+    let count = left.count;
+    let next = left.next;
+    if next == 0 {
+        return without_gap(count);
+    }
+    with_gap(read_right(&text[next..], groups, count), count)
+}
+
+// The group at one of the eight places. Both groups are looked up before the choice, so that the compiler makes it without a branch.
+fn expanded_group(groups: &[u16; 8], count: usize, gap: usize, place: usize) -> u16
+    requires { ⌜ (length (now groups) ≡ 8) × (gap ≤ count) × (count ≤ 8) × (place < 8) ⌝ }
+    ensures { λ r. ⌜ r ≡ getD (expanded count gap (now (groups .entry))) place 0 ⌝ }
+{
+    let front = groups[place];
+    let back = groups[(place + count) % 8];
+    if place < gap {
+        return front;
+    }
+    if place < gap + (8 - count) {
         return 0;
     }
-    let mut i: usize = 0;
-    while i < n - 1 {
-        if text[i] == b':' && text[i + 1] == b':' {
-            return i;
-        }
-        i += 1;
-    }
-    n
+    back
 }
 
-// `out` with the first `n` groups of `from` at `at`.
-fn put(out: [u16; 8], at: usize, from: [u16; 8], n: usize) -> [u16; 8]
-    requires { ⌜ at + n ≤ 8 ⌝ }
-    ensures { λ r. ⌜ r ≡ paste out at from n ⌝ }
+// The groups in all eight places, with a zero group for each that `::` stands for.
+fn expand(groups: &[u16; 8], count: usize, gap: usize) -> [u16; 8]
+    requires { ⌜ (length (now groups) ≡ 8) × (gap ≤ count) × (count ≤ 8) ⌝ }
+    ensures { λ r. ⌜ r ≡ expanded count gap (now (groups .entry)) ⌝ }
 {
-    let mut groups = out;
-    let mut j: usize = 0;
-    while j < n {
-        groups[at + j] = from[j];
-        j += 1;
-    }
-    groups
-}
-
-// The groups on both sides of `::`, with a zero group for each that it stands for.
-fn fill(left: Groups, right: Groups) -> Groups
-    ensures { λ r. ⌜ places r ≡ filled (held left) (held right) ⌝ }
-{
-    let a = left.count;
-    let b = right.count;
-    let left_ok = left.ok;
-    let right_ok = right.ok;
-    if !left_ok {
-        return no_groups();
-    }
-    if !right_ok {
-        return no_groups();
-    }
-    if 7 < a {
-        return no_groups();
-    }
-    if 7 - a < b {
-        return no_groups();
-    }
-    let l = left.groups;
-    let r = right.groups;
-    let begun = put([0u16; 8], 0, l, a);
-    let groups = put(begun, 8 - b, r, b);
-    Groups {
-        ok: true,
-        count: 8,
-        groups,
-    }
-}
-
-// The groups of a strict IPv6 text, in all eight places.
-fn read_groups(text: &[u8]) -> Groups
-    ensures { λ r. ⌜ places r ≡ eightOf (now (text .entry)) ⌝ }
-{
-    let gap = find_gap(text);
-    if gap < text.len() {
-        let left = read_side(&text[..gap], false);
-        let right = read_side(&text[gap + 2..], true);
-        return fill(left, right);
-    }
-    let all = read_side(text, true);
-    let count = all.count;
-    if count < 8 {
-        return no_groups();
-    }
-    all
+    [
+        expanded_group(groups, count, gap, 0),
+        expanded_group(groups, count, gap, 1),
+        expanded_group(groups, count, gap, 2),
+        expanded_group(groups, count, gap, 3),
+        expanded_group(groups, count, gap, 4),
+        expanded_group(groups, count, gap, 5),
+        expanded_group(groups, count, gap, 6),
+        expanded_group(groups, count, gap, 7),
+    ]
 }
 
 // The eight groups of a strict IPv6 text.
 pub fn read_eight(text: &[u8]) -> Eight
     ensures { λ r. ⌜ r ≡ asEight (eightOf (now (text .entry))) ⌝ }
 {
-    let g = read_groups(text);
-    let ok = g.ok;
-    if !ok {
+    let mut groups = [0u16; 8];
+    let layout = read_groups(text, &mut groups);
+    let count = layout.count;
+    let gap = layout.gap;
+    if 8 < count {
         return Eight {
             ok: false,
             groups: [0u16; 8],
         };
     }
-    let groups = g.groups;
-    Eight { ok: true, groups }
+    if 8 <= count {
+        return Eight { ok: true, groups };
+    }
+    let all = expand(&groups, count, gap);
+    Eight {
+        ok: true,
+        groups: all,
+    }
 }

@@ -1,0 +1,2 @@
+-- Bytes: four bytes that are looked at together.
+pub mod Bytes
