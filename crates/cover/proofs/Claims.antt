@@ -4,11 +4,12 @@ use mathlib.Core.Logic.{_⊎_}
 use mathlib.Core.List.{List, [], _∷_}
 use Prim.Native.Nat.{ℕ, _+_, _-_, _*_, _^_, _≤_, _<_}
 use native.Mathlib.Omega.{arith}
-use lib.Count.{trailingZeros}
+use lib.Count.{trailingZeros, trailing-le}
 use lib.ListN as L
-use Rattle.wide.proofs.Trailing.{aligned-trailing}
+use lib.Pow.{pow-pos}
+use Rattle.wide.proofs.Trailing.{aligned-trailing, trailing-aligned}
 use Rattle.cover.specs.Blocks.{Block, IsBlock, Covers, Fewest, Greedy, Range, total, largest, rangeBlocks}
-use Rattle.cover.proofs.Range.{largest-le, largest-may, range-fewest}
+use Rattle.cover.proofs.Range.{MayStart, largest-le, largest-may, largest-max, range-fewest}
 use Rattle.cover.proofs.RangeCount.{range-total, range-count, range-count-reached}
 use Rattle.cover.proofs.Interval as interval
 use Rattle.cover.proofs.Greedy as greedy
@@ -33,9 +34,16 @@ range-is-fewest = range-fewest
 pub sizes-add-up : (W first last : ℕ) → first ≤ last → total W (rangeBlocks W first last) ≡ last - first + 1
 sizes-add-up W first last h = omega (arith, range-total W first last)
 
--- A block may be as large as its starting address has trailing zero bits, and no larger.
+-- A block may be as large as its starting address has trailing zero bits, and no larger: it is that large where the range has room.
 pub at-most-trailing : (W a last : ℕ) → a ≤ last → largest W a last ≤ trailingZeros W a
 at-most-trailing W a last h = aligned-trailing W a (largest W a last) (largest-le W a last) .0 (largest-may W a last h .aligned)
+
+pub as-large-as-trailing : (W a last : ℕ) → a + 2 ^ trailingZeros W a ≤ last + 1 → largest W a last ≡ trailingZeros W a
+as-large-as-trailing W a last h =
+    let may : MayStart a last (trailingZeros W a) = record { aligned = trailing-aligned W a; room = omega arith } in
+    let up = largest-max W a last (trailingZeros W a) (trailing-le W a) may in
+    let down = at-most-trailing W a last (omega (arith, pow-pos (trailingZeros W a))) in
+    omega arith
 
 -- At most 2 W - 2 blocks, and that many are reached: 62 for IPv4, 254 for IPv6.
 pub at-most : (W first last : ℕ) → 2 ≤ W → last < 2 ^ W → L.length (rangeBlocks W first last) ≤ 2 * W - 2

@@ -1,7 +1,7 @@
 -- The blocks of a range: how they are taken one after the other, and that they are the fewest. Assumes nothing.
 use mathlib.Core.Path.{_≡_, refl, sym, ap, _∙_, subst}
 use mathlib.Core.Logic.{_⊎_, inl, inr}
-use mathlib.Core.Bool.{true, false, and-eq-true-iff, and-false}
+use mathlib.Core.Bool.{true, and-eq-true-iff}
 use mathlib.Core.List.{List, [], _∷_}
 use Prim.Native.Nat.{ℕ, zero, suc, _+_, _-_, _%_, _^_, _≤_, _<_}
 use native.Mathlib.Nat.{le-refl}
@@ -11,7 +11,7 @@ use borrow.Author.Tests.{leb-true, eqb-true, le-leb, lt-leb, eq-eqb}
 use lib.Dec.{leb, eqb}
 use lib.Pow.{pow-pos, pow-mono}
 use Rattle.wide.proofs.Aligned.{Aligned, aligned-mono, aligned-nothing}
-use Rattle.wide.proofs.Greatest.{greatest-le, greatest-passes, greatest-max, greatest-is}
+use Rattle.cover.proofs.Greatest.{greatest-le, greatest-passes, greatest-max}
 use Rattle.cover.specs.Blocks.{Block, IsBlock, Fewest, Range, mayStart, largest, blocksFrom, rangeBlocks, Next, Greedy, done, next, size, end}
 use Rattle.cover.proofs.Interval.{covers→within, covers-last}
 use Rattle.cover.proofs.Greedy.{greedy-lower, greedy-fewest}
@@ -50,14 +50,6 @@ largest-may W a last l = may→ a last (largest W a last) (greatest-passes (mayS
 pub largest-max : (W a last k : ℕ) → k ≤ W → MayStart a last k → k ≤ largest W a last
 unfolding largest
 largest-max W a last k l h = greatest-max (mayStart a last) W k l (→may a last k h)
-
--- above last no block may start
-pub largest-none : (W a last : ℕ) → last < a → largest W a last ≡ 0
-unfolding largest
-largest-none W a last h = greatest-is (mayStart a last) W 0 (omega arith) (λ p. absurd (omega arith)) (λ j p q. no-start j)
-  where
-    no-start : (j : ℕ) → mayStart a last j ≡ false
-    no-start j = rw (lt-leb (a + 2 ^ j) (suc last) (omega (arith, pow-pos j))) (and-false (eqb (a % 2 ^ j) 0))
 
 -- a size that may start is the largest if it is W, or the next may not
 pub largest-is : (W a last k : ℕ) → k ≤ W → MayStart a last k → (k ≡ W) ⊎ (¬ MayStart a last (suc k)) → largest W a last ≡ k
@@ -113,6 +105,13 @@ module _ (W last : ℕ) where
       from-enough (suc last - a) (suc (last - a)) a (omega arith) (omega arith)
       ∙ from-step (last - a) a h
       ∙ ap (λ r. blockAt W a k ∷ r) (from-enough (last - a) (suc last - (a + 2 ^ k)) (a + 2 ^ k) (omega arith) (omega arith))
+
+  -- the first block of the range from a on has 2 ^ k addresses, and the others are those of the range behind it
+  pub range-step : (a k : ℕ) → k ≤ W → MayStart a last k → (k ≡ W) ⊎ (¬ MayStart a last (suc k))
+      → rangeBlocks W a last ≡ blockAt W a k ∷ rangeBlocks W (a + 2 ^ k) last
+  range-step a k l h top =
+      subst (λ j. rangeBlocks W a last ≡ blockAt W a j ∷ rangeBlocks W (a + 2 ^ j) last) (largest-is W a last k l h top)
+      (range-largest a (omega (arith, h .room, pow-pos k)))
 
   -- induction along the blocks of a range
   pub range-ind : (P : ℕ → List Block → Type 0) → ((a : ℕ) → last < a → P a [])

@@ -10,8 +10,7 @@ use lib.Pow.{pow-pos, pow-mono}
 use lib.ListN as L
 use Rattle.wide.proofs.Aligned.{Aligned, aligned-dec, aligned-gap, aligned-mono, aligned-nothing, aligned-zero, aligned-next, aligned-back, aligned-pow, aligned-not, aligned-odd}
 use Rattle.cover.specs.Blocks.{Block, total, largest, rangeBlocks}
-use Rattle.cover.proofs.Range.{MayStart, blockAt, size-blockAt, largest-le, largest-may, largest-max, range-done, range-largest, range-ind}
-use Rattle.cover.proofs.RangeStep.{range-step}
+use Rattle.cover.proofs.Range.{MayStart, blockAt, size-blockAt, largest-le, largest-may, largest-max, range-done, range-largest, range-step, range-ind}
 
 -- THEOREM: the sizes of a range's blocks add up to last - first + 1.
 pub range-total : (W first last : ℕ) → total W (rangeBlocks W first last) ≡ suc last - first
@@ -33,7 +32,7 @@ module _ (W last : ℕ) where
   count-done a h = ap L.length (range-done W last a h)
 
   count-step : (a k : ℕ) → k ≤ W → MayStart a last k → ¬ MayStart a last (suc k) → count a ≡ suc (count (a + 2 ^ k))
-  count-step a k l f n = ap L.length (range-step W a last k l f (inr n))
+  count-step a k l f n = ap L.length (range-step W last a k l f (inr n))
 
   -- on the way down from a multiple of 2 ^ k, fewer than 2 ^ k addresses are left: at most one block of each smaller size
   count-down : (k a : ℕ) → k ≤ W → Aligned k a → suc last < a + 2 ^ k → count a ≤ k

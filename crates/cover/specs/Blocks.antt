@@ -7,7 +7,6 @@ use mathlib.Core.List.{List, [], _∷_}
 use Prim.Native.Nat.{ℕ, zero, suc, _+_, _-_, _/_, _%_, _^_, _≤_, _<_}
 use lib.Dec.{leb, eqb}
 use lib.ListN as L
-use Rattle.wide.specs.Value.{greatest}
 
 -- What 01 calls a block is a prefix of RFC 4632 and RFC 4291 section 2.3: an address and how many of its first bits count.
 pub record Block : Type 0 where
@@ -108,6 +107,11 @@ Range first last x = (first ≤ x) × (x ≤ last)
 abbrev pub mayStart : ℕ → ℕ → ℕ → Bool
 mayStart a last k = eqb (a % 2 ^ k) 0 && leb (a + 2 ^ k) (suc last)
 
+-- the largest of the numbers 1 to m that passes the test, or 0 where none of them does
+unfoldable pub greatest : (ℕ → Bool) → ℕ → ℕ
+greatest test zero = zero
+greatest test (suc m) = elim (test (suc m)) [ true ↦ suc m | false ↦ greatest test m ]
+
 -- the largest k up to W for which that is so; 0 where a is above last
 unfoldable pub largest : ℕ → ℕ → ℕ → ℕ
 unfolding greatest
@@ -126,8 +130,3 @@ blocksFrom W last (suc n) a =
 unfoldable pub rangeBlocks : ℕ → ℕ → ℕ → List Block
 unfolding blocksFrom
 rangeBlocks W first last = blocksFrom W last (suc last - first) first
-
--- the next block from a on has 2 ^ bits addresses, and `end` is the last of them
-pub record NextBlock (W a last bits end : ℕ) : Type 0 where
-  pub size : bits ≡ largest W a last
-  pub ends : end ≡ a + 2 ^ largest W a last - 1

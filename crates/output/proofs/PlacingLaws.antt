@@ -1,13 +1,15 @@
 -- Bytes put into a buffer one after the other; what does not fit is left out. Assumes nothing.
 use mathlib.Core.Path.{_≡_, refl, sym, ap, ap₂, _∙_}
+use mathlib.Core.Bool.{Bool, true, false}
 use mathlib.Core.List.{List, [], _∷_, _++_}
 use Prim.Native.Nat.{ℕ, zero, suc, _+_, _≤_, _<_}
 use native.Mathlib.Nat.{add-zero, suc-add}
 use native.Mathlib.Numerals.{unary-clauses}
 use native.Mathlib.Omega.{arith}
+use borrow.Author.Tests.{le-leb, lt-leb}
 use lib.ListN.{length, take, set, length-append, take-append-drop}
 use lib.Seq.{take-length, take-take, take-append-seam}
-use Rattle.output.specs.Placing.{placed, behind, Puts}
+use Rattle.output.specs.Placing.{placed, behind, Puts, fitsAt, PutsAll}
 
 -- ---- placing, one byte of the buffer after the other
 
@@ -96,3 +98,24 @@ puts-whole {a} {b} {n} {s} p h =
       e,
       rw (p .buffer, e, take-take _ _ _ h, take-append-seam),
     )
+
+-- ---- all or none
+
+-- bytes that have room, and were put
+pub all-put : {a b : List ℕ} {i j : ℕ} {s : List ℕ} → Puts a b i j s → i + length s ≤ length a → PutsAll a b i j s
+all-put {a} {b} {i} {j} {s} p h =
+    let yes = le-leb (i + length s) (length a) h in
+    let put : j ≡ i + length s = omega (arith, p .index) in
+    record { index = rw yes put; buffer = rw yes (p .buffer) }
+
+-- bytes that have no room
+pub all-short : (l : List ℕ) (i : ℕ) (s : List ℕ) → length l < i + length s → PutsAll l l i i s
+all-short l i s h = let no = lt-leb (i + length s) (length l) h in record { index = rw no; buffer = rw no }
+
+-- no bytes
+pub all-nothing : (l : List ℕ) (i : ℕ) → PutsAll l l i i []
+all-nothing l i = go (fitsAt [] i l) refl
+  where
+    go : (t : Bool) → fitsAt [] i l ≡ t → PutsAll l l i i []
+    go true e = record { index = rw e (sym (add-zero i)); buffer = rw e (sym (nothing i l)) }
+    go false e = record { index = rw e; buffer = rw e }

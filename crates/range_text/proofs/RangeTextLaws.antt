@@ -1,106 +1,193 @@
--- The text of a range, one block after the other, and which case of the answer a line is. Assumes nothing.
-use mathlib.Core.Path.{_≡_, refl, ap, _∙_, subst}
+-- The lines put from records, the text of a range, and which case of the answer a line is. Assumes nothing.
+use mathlib.Core.Path.{_≡_, refl, sym, ap, ap₂, _∙_}
 use mathlib.Core.List.{List, [], _∷_, _++_}
-use Prim.Native.Nat.{ℕ, suc, _+_, _-_, _*_, _%_, _^_, _≤_, _<_}
+use Prim.Native.Nat.{ℕ, suc, _+_, _*_, _/_, _%_, _^_, _≤_, _<_}
+use native.Mathlib.Nat.{div-lt-iff-lt-mul, mod-lt}
 use native.Mathlib.Numerals.{add-one}
+use native.Mathlib.Decide.{decLe, ℕ-discrete}
 use native.Mathlib.Omega.{arith}
 use borrow.Author.Tests.{eq-eqb, ne-eqb, lt-ltb, le-ltb}
-use lib.ListN.{length, take, drop}
+use lib.Dec.{lit<}
+use lib.ListN.{length, take, drop, length-append}
+use lib.Seq.{take-at, drop-at}
 use Rattle.cover.specs.Blocks as cover
-use Rattle.cover.specs.Blocks.{NextBlock, rangeBlocks}
-use Rattle.cover.proofs.Range.{blockAt}
-use Rattle.cover.proofs.RangeStep.{step, step-last}
+use Rattle.cover.proofs.Claims.{range-is-fewest}
 use Rattle.address.specs.declared.Address.{Address}
 use Rattle.address.specs.declared.Address.the-variants.{V4, V6}
+use Rattle.address.specs.declared.Block.{Block}
 use Rattle.address.specs.declared.Refusal.{Refusal}
-use Rattle.address.specs.Addresses.{family, number, IsAddress}
-use Rattle.address.specs.Answers.{Answer, refusalNumber, gives, refuses, noAddress}
-use Rattle.address.proofs.AnswerLaws.{nonzero}
+use Rattle.address.specs.declared.Refusal.the-variants.{FirstAboveLast, WrongFamily}
+use Rattle.address.specs.Addresses.{family, width, number, IsAddress}
+use Rattle.address.specs.Answers.{Answer, refusalNumber, gives, refuses, noAddress, noBlock}
+use Rattle.address.specs.Blocks.{numbered}
+use Rattle.address.proofs.AnswerLaws.{number-pos, nonzero}
+use Rattle.address.proofs.Claims.{gives-one, address-below}
 use Rattle.digits.specs.Pieces.{indexOf, splitOn}
 use Rattle.digits.proofs.PieceLaws.{split-found, split-last, split-first}
 use Rattle.digits.proofs.SliceLaws.{tail, to-end}
 use Rattle.output.specs.Placing.{Puts}
-use Rattle.output.proofs.PlacingLaws.{puts-then, puts-none}
+use Rattle.output.proofs.PlacingLaws.{puts-then, puts-none, puts-length}
 use Rattle.text.specs.Strict.{strictAnswer}
 use Rattle.blocks.specs.BlockText.{blockText}
-use Rattle.ranges.specs.Ranges.{blocksOf}
-use Rattle.range_text.specs.RangeText.{refusedLine, likeAddress, blockLine, blockLines, rangeText, readText, piecesText, lineText}
+use Rattle.records.specs.Records.{recordSize, recordOf, recordsOf, recordAnswer}
+use Rattle.records.proofs.RecordLaws.{record-length}
+use Rattle.records.proofs.Claims.{read-back-answer}
+use Rattle.ranges.specs.Ranges.{blocksOf, rangeRecords, rangeAnswer, rangeLeaves}
+use Rattle.ranges.proofs.RangeLaws.{same-width, range-apart, range-falling, range-written}
+use Rattle.ranges.proofs.Claims.{enough-310, enough-4318}
+use Rattle.range_text.specs.RangeText.{refusedLine, likeBlock, blockLines, PutsLines, rangeText, readText, piecesText, lineText}
 
--- ---- the walk over a range
+-- ---- a block of a family, as a value
 
--- From `old` at an index, the blocks before `start` are put and `now` is left: putting the others puts the whole range.
-pub record Walk (W : ℕ) (like : Address) (first last : ℕ) (old : List ℕ) (at : ℕ) (now : List ℕ) (next start : ℕ) : Type 0 where
-  pub within : start ≤ last
-  pub rest : (new : List ℕ) (r : ℕ) → Puts now new next r (blockLines like (rangeBlocks W start last)) → Puts old new at r (blockLines like (rangeBlocks W first last))
+like-width : (like : Address) (b : cover.Block) → width (likeBlock like b .address) ≡ width like
+like-width (V4 v) b = refl
+like-width (V6 hi lo) b = refl
 
-pub walk-start : {W : ℕ} {like : Address} {first last : ℕ} {old : List ℕ} {at : ℕ} → first ≤ last → Walk W like first last old at old at first
-walk-start h = record { within = h; rest = λ new r p. p }
+like-numbered : (like : Address) (b : cover.Block) → numbered (likeBlock like b) ≡ b
+like-numbered (V4 v) b = refl
+like-numbered (V6 hi lo) b =
+    let whole : b .address / 2 ^ 64 * 2 ^ 64 + b .address % 2 ^ 64 ≡ b .address = omega arith in
+    λ i. record { address = whole i; length = b .length }
 
--- one block more
-module _ {W : ℕ} {like : Address} {first last : ℕ} {old : List ℕ} {at : ℕ} {now : List ℕ} {next start : ℕ}
-    (w : Walk W like first last old at now next start) {bits end : ℕ} (n : NextBlock W start last bits end)
-    {a : Address} (is : a ≡ likeAddress like start)
-    {mid new : List ℕ} {behind on : ℕ} (p : Puts now mid next behind (blockText (record { address = a; length = W - bits }))) (q : Puts mid new behind on (10 ∷ [])) where
-  line-put : Puts now new next on (blockLine like (blockAt W start bits))
-  unfolding blockLine
-  line-put = subst (λ b. Puts now new next on (blockText (record { address = b; length = W - bits }) ++ 10 ∷ [])) is (puts-then p q)
+like-address : (like : Address) (b : cover.Block) → b .address < 2 ^ width like → IsAddress (likeBlock like b .address)
+like-address (V4 v) b h = h
+like-address (V6 hi lo) b h = (div-lt-iff-lt-mul (lit< tt) .1 h, mod-lt (b .address) (lit< tt))
 
-  pub walk-on : {s : ℕ} → s ≡ end + 1 → end < last → Walk W like first last old at new on s
-  unfolding blockLines
-  walk-on {s} e h =
-      let f : s ≡ suc end = omega arith in
-      record { within = omega arith; rest = λ l r t. w .rest l r (rw (step n (w .within)) (puts-then line-put (rw f at t))) }
+-- its record is read as that value
+like-read : (like : Address) (b : cover.Block) → cover.IsBlock (width like) b → recordAnswer (recordOf (width like) b) ≡ gives (likeBlock like b)
+like-read like b h =
+    ap recordAnswer (sym (ap₂ recordOf (like-width like b) (like-numbered like b)))
+    ∙ read-back-answer (likeBlock like b) (like-address like b (h .below)) (rw (like-width like b, like-numbered like b) h)
 
-  pub walk-done : last ≤ end → Puts old new at on (blockLines like (rangeBlocks W first last))
-  unfolding blockLines
-  walk-done h = w .rest new on (rw (step-last n (w .within) h) (puts-then line-put (puts-none new on)))
+-- ---- the lines of records
+
+module _ (like : Address) {size : ℕ} (is : size ≡ recordSize (width like)) (rest : List ℕ) where
+  -- the first of them
+  module _ (b : cover.Block) (bs : List cover.Block) (e : rest ≡ recordsOf (width like) (b ∷ bs)) where
+    first-size : length (recordOf (width like) b) ≡ size
+    first-size = record-length (width like) b ∙ sym is
+
+    first-fits : size ≤ length rest
+    unfolding recordsOf
+    first-fits = omega (arith, ap length e, length-append (recordOf (width like) b) (recordsOf (width like) bs), first-size)
+
+    first-answer : cover.IsBlock (width like) b → recordAnswer (take size rest) ≡ gives (likeBlock like b)
+    unfolding recordsOf
+    first-answer h = ap recordAnswer (ap (take size) e ∙ take-at (recordOf (width like) b) (recordsOf (width like) bs) size first-size) ∙ like-read like b h
+
+    others : tail size rest ≡ recordsOf (width like) bs
+    unfolding recordsOf
+    others = to-end size rest ∙ ap (drop size) e ∙ drop-at (recordOf (width like) b) (recordsOf (width like) bs) size first-size
+
+  module _ {now : List ℕ} {next : ℕ} where
+    -- none is left
+    pub lines-none : length rest < size → PutsLines like rest now now next next
+    unfolding blockLines
+    lines-none h [] all e = puts-none now next
+    lines-none h (b ∷ bs) all e = absurd (omega (arith, first-fits b bs e))
+
+    -- none is refused
+    pub lines-refused : (x : Refusal) → refuses noBlock x ≡ recordAnswer (take size rest) → PutsLines like rest now now next next
+    unfolding blockLines
+    lines-refused x r [] all e = puts-none now next
+    lines-refused x r (b ∷ bs) all e = absurd (omega (arith, number-pos x, ap (λ a. a .number) (r ∙ first-answer b bs e (all .0))))
+
+    -- the line of the first, and then those of the others
+    lines-more : size ≤ length rest → {block : Block} → gives block ≡ recordAnswer (take size rest)
+        → {mid new : List ℕ} {behind on : ℕ} → Puts now mid next behind (blockText block) → Puts mid new behind on (10 ∷ [])
+        → {end : List ℕ} {r : ℕ} → PutsLines like (tail size rest) new end on r → PutsLines like rest now end next r
+    unfolding blockLines recordsOf
+    lines-more h g p q t [] all e = absurd (omega (arith, ap length e))
+    lines-more h {block} g p q t (b ∷ bs) all e =
+        let read : block ≡ likeBlock like b = gives-one (g ∙ first-answer b bs e (all .0)) in
+        puts-then (puts-then (rw read at p) q) (t bs (all .1) (others b bs e))
+
+-- The lines of some of the records are put, and `rest` are the others: putting their lines puts all. The loop keeps the size of a
+-- record and no address, so that this is said of any address whose records have that size.
+pub record Walk (size : ℕ) (records old : List ℕ) (at : ℕ) (rest now : List ℕ) (next : ℕ) : Type 0 where
+  pub same : length now ≡ length old
+  pub more : (like : Address) → size ≡ recordSize (width like) → (new : List ℕ) (r : ℕ) → PutsLines like rest now new next r → PutsLines like records old new at r
+
+pub walk-start : {size : ℕ} {records old : List ℕ} {at : ℕ} → Walk size records old at records old at
+walk-start = record { same = refl; more = λ like e new r p. p }
+
+pub walk-on : {size : ℕ} {records old : List ℕ} {at : ℕ} {rest now : List ℕ} {next : ℕ} → Walk size records old at rest now next
+    → size ≤ length rest → {block : Block} → gives block ≡ recordAnswer (take size rest)
+    → {mid new : List ℕ} {behind on : ℕ} → Puts now mid next behind (blockText block) → Puts mid new behind on (10 ∷ [])
+    → Walk size records old at (tail size rest) new on
+walk-on {rest} w h g p q = record { same = puts-length q ∙ puts-length p ∙ w .same; more = λ like e new r t. w .more like e new r (lines-more like e rest h g p q t) }
 
 -- ---- the text of a range
 
 module _ (first last : Address) where
-  pub text-apart : ¬ (family first ≡ family last) → refusedLine 9 ≡ rangeText first last
+  text-apart : ¬ (family first ≡ family last) → refusedLine 9 ≡ rangeText first last
   unfolding rangeText
   text-apart n = rw (ne-eqb (family first) (family last) n)
 
   module _ (same : family first ≡ family last) where
-    pub text-falling : number last < number first → refusedLine 8 ≡ rangeText first last
+    text-falling : number last < number first → refusedLine 8 ≡ rangeText first last
     unfolding rangeText
     text-falling h = rw (eq-eqb (family first) (family last) same, lt-ltb (number last) (number first) h)
 
-    pub text-rising : number first ≤ number last → blockLines first (blocksOf first last) ≡ rangeText first last
+    text-rising : number first ≤ number last → blockLines first (blocksOf first last) ≡ rangeText first last
     unfolding rangeText
     text-rising h = rw (eq-eqb (family first) (family last) same, le-ltb (number last) (number first) h)
 
--- which IPv6 address the lines are like does not matter
-like-6 : (hi lo h l : ℕ) (bs : List cover.Block) → blockLines (V6 hi lo) bs ≡ blockLines (V6 h l) bs
-unfolding blockLines
-like-6 hi lo h l [] = refl
-like-6 hi lo h l (b ∷ bs) = ap (λ r. blockLine (V6 hi lo) b ++ r) (like-6 hi lo h l bs)
+-- A range is refused, whatever room there is for its records, or rises within one family.
+pub data Kind (first last : Address) : Type 0 where
+  refused : (x : Refusal) → ((old : List ℕ) → rangeAnswer first last old ≡ refuses (0, 0) x) → refusedLine (refusalNumber x) ≡ rangeText first last → Kind first last
+  rising : family first ≡ family last → number first ≤ number last → blockLines first (blocksOf first last) ≡ rangeText first last → Kind first last
 
--- what the code has found: a range from a to b
-pub record Found (first last : Address) (a b : ℕ) : Type 0 where
-  pub same : family first ≡ family last
-  pub low : a ≡ number first
-  pub high : b ≡ number last
-  pub rises : a ≤ b
+pub kind : (first last : Address) → Kind first last
+kind first last = elim (ℕ-discrete (family first) (family last)) [
+  | yes e ↦ elim (decLe (number first) (number last)) [
+    | yes l ↦ rising e l (text-rising first last e l)
+    | no n ↦
+        let l : number last < number first = omega arith in
+        refused FirstAboveLast (λ old. sym (range-falling first last old e l .0)) (text-falling first last e l)
+  ]
+  | no n ↦ refused WrongFamily (λ old. sym (range-apart first last old n .0)) (text-apart first last n)
+]
 
--- the lines of an IPv4 range, and those of an IPv6 range
-pub text-4 : (first last : Address) (a b : ℕ) → Found first last a b → IsAddress last → family first ≡ 4 → (x y : ℕ) → x ≡ a % 2 ^ 64 → y ≡ b % 2 ^ 64
-    → (x ≤ y) × (y < 2 ^ 32) × (blockLines (V4 x) (rangeBlocks 32 x y) ≡ rangeText first last)
-text-4 (V4 v) (V4 w) a b f h e x y p q =
-    let r = f .rises in
-    let low : x ≡ v = omega (arith, f .low, f .high) in
-    let high : y ≡ w = omega (arith, f .high) in
-    (omega arith, omega arith, rw (low, high) (text-rising (V4 v) (V4 w) refl (omega arith)))
-text-4 (V4 v) (V6 hi lo) a b f h e x y p q = absurd (omega (arith, f .same))
-text-4 (V6 hi lo) last a b f h e x y p q = absurd (omega arith)
+-- what holds of the ranges of each family
+pub either-family : (P : Address → Address → Type 0) → ((v w : ℕ) → IsAddress (V4 w) → P (V4 v) (V4 w)) → ((hi lo h l : ℕ) → IsAddress (V6 h l) → P (V6 hi lo) (V6 h l))
+    → (first last : Address) → IsAddress last → family first ≡ family last → P first last
+either-family P four six (V4 v) (V4 w) is e = four v w is
+either-family P four six (V4 v) (V6 hi lo) is e = absurd (omega arith)
+either-family P four six (V6 hi lo) (V4 v) is e = absurd (omega arith)
+either-family P four six (V6 hi lo) (V6 h l) is e = six hi lo h l is
 
-pub text-6 : (first last : Address) (hi lo b : ℕ) → Found first last (hi * 2 ^ 64 + lo) b → ¬ (family first ≡ 4)
-    → blockLines (V6 hi lo) (rangeBlocks 128 (hi * 2 ^ 64 + lo) b) ≡ rangeText first last
-text-6 (V4 v) last hi lo b f n = absurd (n refl)
-text-6 (V6 h l) last hi lo b f n =
-    let rises : h * 2 ^ 64 + l ≤ number last = omega (arith, f .low, f .high, f .rises) in
-    rw (f .low, f .high) (like-6 hi lo h l (rangeBlocks 128 (h * 2 ^ 64 + l) (number last)) ∙ text-rising (V6 h l) last (f .same) rises)
+-- ---- the text of a range, from what `range_blocks` answers and leaves in a buffer with room for any range
+
+-- the first bytes of the buffer are the records of the range: putting their lines puts its text
+pub record Written (first last : Address) (bytes : ℕ) (left : List ℕ) : Type 0 where
+  pub fits : bytes ≤ length left
+  pub lines : {old new : List ℕ} {at next : ℕ} → PutsLines first (take bytes left) old new at next → Puts old new at next (rangeText first last)
+
+module _ (first last : Address) (is : IsAddress last) (old : List ℕ) (room : 4318 ≤ length old) where
+  enough : family first ≡ family last → length (rangeRecords first last) ≤ length old
+  enough = either-family (λ a b. length (rangeRecords a b) ≤ length old) (λ v w h. omega (arith, enough-310 v w h)) (λ hi lo h l k. omega (arith, enough-4318 hi lo h l k)) first last is
+
+  -- 3 is never answered
+  pub range-refused : (x : Refusal) → refuses (0, 0) x ≡ rangeAnswer first last old → refusedLine (refusalNumber x) ≡ rangeText first last
+  range-refused x e = elim (kind first last) [
+    | refused y a t ↦ ap (λ r. refusedLine (r .number)) (e ∙ a old) ∙ t
+    | rising s h t ↦ absurd (omega (arith, number-pos x, ap (λ r. r .number) (e ∙ sym (range-written first last old s h (enough s) .0))))
+  ]
+
+  pub range-wrote : (blocks bytes : ℕ) → gives (blocks, bytes) ≡ rangeAnswer first last old → (left : List ℕ) → left ≡ rangeLeaves first last old → Written first last bytes left
+  range-wrote blocks bytes e left l = elim (kind first last) [
+    | refused y a t ↦ absurd (omega (arith, number-pos y, ap (λ r. r .number) (e ∙ a old)))
+    | rising s h t ↦
+        let records = rangeRecords first last in
+        let more = drop (length records) old in
+        let w = range-written first last old s h (enough s) in
+        let all : bytes ≡ length records = ap (λ r. r .fields .1) (e ∙ sym (w .0)) in
+        let whole : left ≡ records ++ more = l ∙ sym (w .1) in
+        let front : take bytes left ≡ records = ap₂ take all whole ∙ take-at records more (length records) refl in
+        let rules = range-is-fewest (width first) (number first) (number last) (rw (same-width first last s) (address-below last is)) .blocks in
+        record { fits = omega (arith, ap length whole, length-append records more); lines = λ p. rw (← t) (p (blocksOf first last) rules front) }
+  ]
 
 -- ---- the text of two answers
 

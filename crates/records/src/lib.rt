@@ -1,10 +1,10 @@
 // Blocks as records of bytes: the address in network order, then the length.
 ghost use mathlib.Core.Path.{_≡_};
-ghost use mathlib.Core.List.{[]};
+ghost use mathlib.Core.List.{[], _∷_};
 ghost use Rattle.address.specs.Addresses.{width};
 ghost use Rattle.address.specs.Answers.{blockAnswer, writingAnswer, writeAnswer, writeLeaves};
 ghost use Rattle.address.specs.Blocks.{blockReasons};
-ghost use Rattle.records.specs.Records.{recordSize, blockRecord, recordAnswer};
+ghost use Rattle.records.specs.Records.{recordSize, blockRecord, partSizes, partsLeave, recordAnswer};
 use address::Address;
 use address::Block;
 use address::BlockReading;
@@ -12,8 +12,9 @@ use address::Check;
 use address::Reading;
 use address::Refusal;
 use address::Writing;
+use octets::put_eight;
+use octets::put_four;
 use octets::read_octets;
-use octets::write_octets;
 
 // How many bytes the record of a block with that address has.
 pub fn record_size(address: Address) -> usize
@@ -25,19 +26,43 @@ pub fn record_size(address: Address) -> usize
     }
 }
 
-// Puts the record of any block value at the start of `out`, where there is room for it.
-pub fn put_record(block: Block, out: &mut [u8]) -> Writing
-    ensures { λ r. ⌜ (writingAnswer r ≡ writeAnswer [] (blockRecord block) (now (out .entry))) × (now (out .exit) ≡ writeLeaves [] (blockRecord block) (now (out .entry))) ⌝ }
+// Puts a byte at the start of `out`, where there is room for it.
+fn put_byte(byte: u8, out: &mut [u8])
+    ensures { λ _. ⌜ now (out .exit) ≡ writeLeaves [] (byte ∷ []) (now (out .entry)) ⌝ }
+{
+    if out.len() < 1 {
+        return;
+    }
+    out[0] = byte;
+}
+
+// Puts the record of any block value at the start of `out`. This stands outside 01: where the record has no room, those of its parts are
+// put that have it. Each part is tested by itself, since the compiler stores the bytes of a part at once only where no test covers two of them.
+pub fn fill_record(block: Block, out: &mut [u8])
+    ensures { λ _. ⌜ now (out .exit) ≡ partsLeave (partSizes (block .address)) (blockRecord block) (now (out .entry)) ⌝ }
 {
     let address = block.address;
     let length = block.length;
-    let size = record_size(address);
-    if out.len() < size {
-        return Writing::Refused(Refusal::NoRoom);
+    match address {
+        Address::V4(v) => {
+            if out.len() < 4 {
+                return;
+            }
+            put_four(v, out);
+            put_byte(length, &mut out[4..]);
+        }
+        Address::V6(hi, lo) => {
+            if out.len() < 8 {
+                return;
+            }
+            put_eight(hi, out);
+            if out.len() < 16 {
+                return;
+            }
+            put_eight(lo, &mut out[8..]);
+            put_byte(length, &mut out[16..]);
+        }
     }
-    write_octets(address, out);
-    out[size - 1] = length;
-    Writing::Wrote(size)
 }
 
 // Writes the record of a block to the start of `out`, where the block keeps both rules and there is room for it.
@@ -46,7 +71,15 @@ pub fn write_record(block: Block, out: &mut [u8]) -> Writing
 {
     match block.check() {
         Check::Refused(e) => Writing::Refused(e),
-        Check::Valid => put_record(block, out),
+        Check::Valid => {
+            let address = block.address;
+            let size = record_size(address);
+            if out.len() < size {
+                return Writing::Refused(Refusal::NoRoom);
+            }
+            fill_record(block, out);
+            Writing::Wrote(size)
+        }
     }
 }
 

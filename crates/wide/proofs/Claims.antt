@@ -1,14 +1,11 @@
 -- What is claimed of wide numbers. Assumes nothing.
 use mathlib.Core.Path.{_≡_, sym, ap, _∙_}
 use mathlib.Core.Logic.{_↔_}
-use Prim.Native.Nat.{ℕ, suc, _/_, _%_, _^_, _≤_, _<_}
-use native.Mathlib.Decide.{decLe, decLt}
-use native.Mathlib.Omega.{arith}
+use Prim.Native.Nat.{ℕ, _/_, _%_, _^_, _≤_, _<_}
 use lib.Count.{trailingZeros}
-use lib.Pow.{high, low, pow-mono}
+use lib.Pow.{high, low}
 use Rattle.wide.specs.declared.Wide.{Wide}
-use Rattle.wide.specs.Value.{value, log2}
-use Rattle.wide.proofs.Greatest.{log2-le, log2-max}
+use Rattle.wide.specs.Value.{value}
 use Rattle.wide.proofs.Trailing.{aligned-trailing}
 
 -- A value fixes the halves, so that a contract about the value of a result fixes the result.
@@ -17,19 +14,6 @@ one-value v w h k e =
     let hi : v .hi ≡ w .hi = sym (high (v .hi) 64 h) ∙ ap (λ (n : ℕ). n / 2 ^ 64) e ∙ high (w .hi) 64 k in
     let lo : v .lo ≡ w .lo = sym (low (v .hi) 64 h) ∙ ap (λ (n : ℕ). n % 2 ^ 64) e ∙ low (w .hi) 64 k in
     λ i. record { hi = hi i; lo = lo i }
-
--- The power of two with the exponent `log2 w n` is at most n, and the next is larger.
-pub log2-means : (w n : ℕ) → 0 < n → n < 2 ^ suc w → (2 ^ log2 w n ≤ n) × (n < 2 ^ suc (log2 w n))
-log2-means w n pos small = (
-  log2-le w n pos,
-  elim (decLt n (2 ^ suc (log2 w n))) [
-    | yes h ↦ h
-    | no m ↦ elim (decLe (suc (log2 w n)) w) [
-      | yes l ↦ absurd (omega (arith, log2-max w n (suc (log2 w n)) l (omega arith)))
-      | no l ↦ absurd (omega (arith, pow-mono {i = suc w} {j = suc (log2 w n)} (omega arith)))
-    ]
-  ],
-)
 
 -- A number has k or more trailing zeros among its w lowest bits exactly if its k lowest bits are zero.
 pub trailing-means : (w n k : ℕ) → k ≤ w → (n % 2 ^ k ≡ 0) ↔ (k ≤ trailingZeros w n)

@@ -3,7 +3,7 @@
 use mathlib.Core.Path.{_≡_, sym, ap, _∙_}
 use mathlib.Core.Bool.{false}
 use Prim.Native.Nat.{ℕ, _+_, _-_, _*_, _%_, _^_, _≤_, _<_, min}
-use native.Mathlib.Nat.{add-mul, one-mul, zero-mul, mul-le-mul-right}
+use native.Mathlib.Nat.{add-mul, one-mul, mul-le-mul-right}
 use native.Mathlib.Decide.{decLt, ℕ-discrete}
 use native.Mathlib.Omega.{arith}
 use borrow.Author.Tests.{lt-ltb, le-ltb, eq-eqb, ne-eqb}
@@ -72,10 +72,6 @@ high-other b ah al bh bl l k n = ne-eqb (ah * b + al) (bh * b + bl) (λ e. elim 
   | yes h ↦ omega (arith, high-less b ah al bh bl h l)
   | no m ↦ omega (arith, high-less b bh bl ah al (omega arith) k)
 ])
-
--- a number whose upper digit is 0 is its lower one
-pub high-none : (b h l : ℕ) → h ≤ 0 → h * b + l ≡ l
-high-none b h l z = let e : h ≡ 0 = omega arith in rw e (omega (arith, zero-mul b))
 
 -- a wide number has 128 bits
 pub value-lt : (w : Wide) → w .hi < 2 ^ 64 → w .lo < 2 ^ 64 → value w < 2 ^ 128

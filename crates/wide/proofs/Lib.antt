@@ -1,8 +1,7 @@
 -- Laws that more than one proof cites. Aligned: multiples of a power of two. Trailing: zero bits at a number's end.
--- Greatest: the largest number that passes a test. Halves: order, sum and difference of numbers of two digits.
+-- Halves: order, sum and difference of numbers of two digits.
 -- Claims: the theorems, gathered for a reader.
 pub mod Aligned
 pub mod Trailing
-pub mod Greatest
 pub mod Halves
 pub mod Claims

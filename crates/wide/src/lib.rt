@@ -4,7 +4,7 @@ ghost use mathlib.Core.Path.{_≡_};
 ghost use Prim.Native.Nat.{_+_, _-_, _*_, _/_, _%_, _^_, min};
 ghost use lib.Dec.{ltb, eqb};
 ghost use lib.Count.{trailingZeros};
-ghost use Rattle.wide.specs.Value.{value, log2};
+ghost use Rattle.wide.specs.Value.{value};
 
 // The largest half.
 const MOST: u64 = 0xffff_ffff_ffff_ffff;
@@ -19,18 +19,6 @@ impl Wide {
         ensures { λ r. ⌜ value r ≡ hi * 2 ^ 64 + lo ⌝ }
     {
         Wide { hi, lo }
-    }
-
-    pub fn upper(self) -> u64
-        ensures { λ r. ⌜ r ≡ value self / 2 ^ 64 ⌝ }
-    {
-        self.hi
-    }
-
-    pub fn lower(self) -> u64
-        ensures { λ r. ⌜ r ≡ value self % 2 ^ 64 ⌝ }
-    {
-        self.lo
     }
 
     pub fn less(self, other: Wide) -> bool
@@ -117,21 +105,6 @@ impl Wide {
         } else {
             u64::trailing_zeros(lo)
         }
-    }
-
-    // The exponent of the largest power of two that is not above the number; 0 for 0, which has none.
-    pub fn log2(self) -> u32
-        ensures { λ r. ⌜ r ≡ log2 128 (value self) ⌝ }
-    {
-        let hi = self.hi;
-        let lo = self.lo;
-        if 0 < hi {
-            return 127 - u64::leading_zeros(hi);
-        }
-        if 0 < lo {
-            return 63 - u64::leading_zeros(lo);
-        }
-        0
     }
 
     // Whether the k lowest bits are zero.

@@ -1,0 +1,27 @@
+-- What is claimed of a range's records at an index of a buffer (01, "Blocks and ranges"), over the width W. Assumes nothing.
+use mathlib.Core.Path.{_≡_}
+use mathlib.Core.List.{List}
+use Prim.Native.Nat.{ℕ, _+_, _/_, _^_, _≤_, _<_}
+use native.Mathlib.Nat.{le-refl}
+use lib.Count.{ones}
+use lib.ListN.{length, take, drop}
+use Rattle.cover.specs.Blocks.{rangeBlocks}
+use Rattle.output.specs.Placing.{PutsAll}
+use Rattle.records.specs.Records.{recordsOf, readRecords}
+use Rattle.runs.specs.Runs.{Parts}
+use Rattle.runs.proofs.PartLaws as parts
+use Rattle.runs.proofs.RoomLaws as room
+
+module _ (W first last : ℕ) {old new : List ℕ} {at next : ℕ} (p : PutsAll old new at next (recordsOf W (rangeBlocks W first last))) where
+  -- Where they have room, the records at the index, read as blocks, are those of the range, and every byte before and behind them stays.
+  pub held : 256 ^ (W / 8) ≡ 2 ^ W → last < 2 ^ W → at + length (recordsOf W (rangeBlocks W first last)) ≤ length old
+      → (readRecords W (length (rangeBlocks W first last)) (drop at new) ≡ rangeBlocks W first last) × (take at new ≡ take at old) × (drop next new ≡ drop next old)
+  held = room.held W first last p
+
+  -- Where they have none, nothing is altered, and the index stays.
+  pub kept : length old < at + length (recordsOf W (rangeBlocks W first last)) → (next ≡ at) × (new ≡ old)
+  kept = room.kept W first last p
+
+-- A run has a block for each one bit of its rising part and of its falling part.
+pub counted : (W first last rise fall : ℕ) → last < 2 ^ W → Parts first last rise fall → length (rangeBlocks W first last) ≡ ones rise + ones fall
+counted W first last rise fall top p = parts.parts-count W last top (rise + fall) first rise fall (le-refl (rise + fall)) p
