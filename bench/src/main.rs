@@ -3,6 +3,7 @@
 mod inputs;
 mod measure;
 mod peers;
+mod plot;
 mod table;
 
 use std::net::{Ipv4Addr, Ipv6Addr};
@@ -12,7 +13,7 @@ use measure::{measure, verify, Answer};
 use nibharrow::exact;
 use table::Row;
 
-const USAGE: &str = "usage: bench [--markdown] [--only WORD] [--rounds N]";
+const USAGE: &str = "usage: bench [--markdown] [--only WORD] [--rounds N] [--svg FILE]";
 
 /// Targets: the largest ratio of the library's time to the peer's.
 const READ_IPV4: Option<f64> = Some(1.0);
@@ -25,6 +26,7 @@ struct Bench {
     markdown: bool,
     only: String,
     rounds: usize,
+    svg: Option<String>,
     rows: Vec<Row>,
 }
 
@@ -34,6 +36,7 @@ impl Bench {
             markdown: false,
             only: String::new(),
             rounds: 31,
+            svg: None,
             rows: Vec::new(),
         };
         while let Some(option) = options.next() {
@@ -41,6 +44,7 @@ impl Bench {
                 "--markdown" => bench.markdown = true,
                 "--only" => bench.only = options.next()?,
                 "--rounds" => bench.rounds = options.next()?.parse().ok().filter(|n| *n > 0)?,
+                "--svg" => bench.svg = Some(options.next()?),
                 _ => return None,
             }
         }
@@ -279,4 +283,10 @@ fn main() {
         "{}",
         table::render(&bench.rows, bench.rounds, bench.markdown)
     );
+    if let Some(file) = bench.svg {
+        if let Err(error) = std::fs::write(&file, plot::render(&bench.rows)) {
+            eprintln!("{file}: {error}");
+            std::process::exit(2);
+        }
+    }
 }

@@ -47,7 +47,7 @@ impl Answer for Option<u32> {
 
 /// Nanoseconds per call of each round, library first.
 pub struct Times {
-    rounds: Vec<[f64; 2]>,
+    pub rounds: Vec<[f64; 2]>,
 }
 
 impl Times {
