@@ -20,15 +20,15 @@ pub struct Eight {
 }
 
 // Where the groups that were read belong: the first `gap` of `count` at the front, the others at the end. A count of 9 is a refusal.
-pub struct Layout {
-    pub count: usize,
-    pub gap: usize,
+struct Layout {
+    count: usize,
+    gap: usize,
 }
 
 // What was read on one side of `::`: how many groups there are then, or 9, and the index behind `::`, or 0 where none was reached.
-pub struct Side {
-    pub count: usize,
-    pub next: usize,
+struct Side {
+    count: usize,
+    next: usize,
 }
 
 // The layout of groups with no `::` among them.

@@ -3,14 +3,14 @@ use mathlib.Core.Path.{_≡_, refl, sym, ap, ap₂, _∙_}
 use mathlib.Core.List.{List, [], _∷_, _++_, append-assoc, append-nil}
 use mathlib.Core.Option.{some, none}
 use Prim.Native.Nat.{ℕ, suc, _+_, _-_, _*_, _/_, _^_, _≤_, _<_}
-use native.Mathlib.Nat.{mul-suc}
+use native.Mathlib.Nat.{mul-suc, le-of-eq}
 use native.Mathlib.Decide.{ℕ-discrete, decLe}
 use native.Mathlib.Omega.{arith}
 use borrow.Author.Tests.{ne-eqb, le-leb, lt-leb}
 use lib.Dec.{lit<}
 use borrow.Rule.Slice.PartMut.{putMid, midOf}
 use lib.ListN.{length, take, drop, getD, length-append, length-drop, take-append-drop}
-use lib.Seq.{length-take-le, take-at, drop-at, drop-drop, getD-at}
+use lib.Seq.{length-take-le, take-at, take-add, drop-at, drop-drop, getD-at}
 use Rattle.cover.specs.Blocks as cover
 use Rattle.address.specs.declared.Address.{Address}
 use Rattle.address.specs.declared.Address.the-variants.{V4, V6}
@@ -75,6 +75,25 @@ parts-whole (n ∷ ns) bytes old e h =
     ∙ ap (λ r. take n bytes ++ r) (parts-whole ns more (drop n old) (omega arith) (omega (arith, length-drop n old)))
     ∙ sym (append-assoc (take n bytes) more (drop (length more) (drop n old)))
     ∙ ap₂ _++_ (take-append-drop n bytes) (drop-drop (length more) n old ∙ ap (λ (k : ℕ). drop k old) count)
+
+-- whatever the room, the first of the bytes are put, and those behind them stay
+parts-cut : (ns bytes old : List ℕ) → total ns ≤ length bytes → (m : ℕ) × (m ≤ length old) × (partsLeave ns bytes old ≡ take m bytes ++ drop m old)
+unfolding partsLeave
+parts-cut [] bytes old h = (0, omega arith, refl)
+parts-cut (n ∷ ns) bytes old h = elim (decLe n (length old)) [
+  | no l ↦ (0, omega arith, sym (parts-stop n ns bytes old (omega arith)))
+  | yes l ↦
+      let front = length-take-le n bytes (omega arith) in
+      let more = drop n bytes in
+      let (m, k, e) = parts-cut ns more (drop n old) (omega (arith, length-drop n bytes)) in (
+        n + m,
+        omega (arith, length-drop n old),
+        sym (parts-on (take n bytes) ns more old n front l ∙ ap (λ r. partsLeave (n ∷ ns) r old) (take-append-drop n bytes))
+            ∙ ap (λ r. take n bytes ++ r) e
+            ∙ sym (append-assoc (take n bytes) (take m more) (drop m (drop n old)))
+            ∙ ap₂ _++_ (sym (take-add n m bytes)) (drop-drop m n old),
+      )
+]
 
 -- bytes put into the rest of a buffer, behind p
 rest-leaves : (n : ℕ) (old mid ys p q : List ℕ) → length p ≡ n → mid ≡ p ++ drop n old → ys ≡ writeLeaves [] q (midOf n (length mid - n) mid)
@@ -155,10 +174,13 @@ module _ (b : Block) (old : List ℕ) where
         ∙ parts-on upper (8 ∷ 1 ∷ []) (lower ++ last) old 8 (digits-length 256 8 hi) (omega arith)
         ∙ filled-6
 
--- a record that has room is put whole
+-- a record that has room is put whole, and of any other the first bytes
 sizes-add : (a : Address) → total (partSizes a) ≡ recordSize (width a)
 sizes-add (V4 v) = refl
 sizes-add (V6 hi lo) = refl
+
+pub fill-cut : (b : Block) (old : List ℕ) → (m : ℕ) × (m ≤ length old) × (partsLeave (partSizes (b .address)) (blockRecord b) old ≡ take m (blockRecord b) ++ drop m old)
+fill-cut b old = parts-cut (partSizes (b .address)) (blockRecord b) old (le-of-eq (sizes-add (b .address) ∙ sym (record-length (width (b .address)) (numbered b))))
 
 pub fill-whole : (b : Block) (old : List ℕ) → recordSize (width (b .address)) ≤ length old → partsLeave (partSizes (b .address)) (blockRecord b) old ≡ writeLeaves [] (blockRecord b) old
 fill-whole b old h =

@@ -37,7 +37,7 @@ fn put_byte(byte: u8, out: &mut [u8])
 }
 
 // Puts the record of any block value at the start of `out`. This stands outside 01: where the record has no room, those of its parts are
-// put that have it. Each part is tested by itself, since the compiler stores the bytes of a part at once only where no test covers two of them.
+// put that have it. Each part has a test of its own: the compiler stores its bytes at once only where a test stands between it and the next.
 pub fn fill_record(block: Block, out: &mut [u8])
     ensures { λ _. ⌜ now (out .exit) ≡ partsLeave (partSizes (block .address)) (blockRecord block) (now (out .entry)) ⌝ }
 {

@@ -12,7 +12,9 @@ use Rattle.wide.proofs.Aligned.{Aligned, quotient, aligned-gap, aligned-mono, a
 use Rattle.cover.specs.Blocks.{Block, largest, rangeBlocks}
 use Rattle.cover.proofs.Range.{MayStart, blockAt, largest-le, largest-may, largest-max, largest-is, range-largest, range-ind}
 use Rattle.records.specs.Records.{recordsOf}
-use Rattle.runs.specs.Runs.{Lane, Narrow, Lower, Upper, laneBits, laneBlock, laneBlocks, runRecords, FirstRun}
+use Rattle.wide.specs.Value.{value}
+use Rattle.runs.specs.declared.Run.{Run}
+use Rattle.runs.specs.Runs.{Lane, Narrow, Lower, Upper, RunIs, laneOf, laneBits, laneBlock, laneBlocks, runRecords, FirstRun}
 use Rattle.runs.proofs.PartLaws.{pow-cancel, aligned-rest}
 
 -- ---- multiples
@@ -255,6 +257,15 @@ module _ (ah al bh bl : ℕ) where
             blocks = ap (λ (x : ℕ). rangeBlocks 128 x to) (sym start) ∙ upper-blocks to (bh - 1) (omega arith) (into-fits (2 ^ 64) bh bl (omega arith)) (into-short (2 ^ 64) 18446744073709551615 bh bl refl less (omega arith)) ah (omega arith)
                 ∙ ap (λ (x : ℕ). laneBlocks Upper (rangeBlocks 64 ah (bh - 1)) ++ rangeBlocks 128 x to) end;
           }
+
+-- the same of a run that the code answers
+pub run-first : {s t : ℕ} {r : Run} {l : Lane} {a b e : ℕ} → RunIs r l a b e → (end : ℕ) → e ≡ end → FirstRun 128 s t l a b end
+    → FirstRun 128 s t (laneOf (r .longest) (r .hi)) (r .first) (r .last) (value (r .end))
+run-first {s} {t} {r} {l} {a} {b} {e} i end q f =
+    subst (λ (x : ℕ). FirstRun 128 s t (laneOf (r .longest) (r .hi)) (r .first) (r .last) x) (sym (i .end ∙ q))
+    (subst (λ (x : ℕ). FirstRun 128 s t (laneOf (r .longest) (r .hi)) (r .first) x end) (sym (i .last))
+    (subst (λ (x : ℕ). FirstRun 128 s t (laneOf (r .longest) (r .hi)) x b end) (sym (i .first))
+    (subst (λ x. FirstRun 128 s t x a b end) (sym (i .lane)) f)))
 
 -- ---- all addresses
 

@@ -70,7 +70,10 @@ module _ (W first last : ℕ) where
         (p .index ∙ ap (λ b. cond b (at + length records) at) no, p .buffer ∙ ap (λ b. cond b (placed records at old) old) no)
 
     pub held : 256 ^ (W / 8) ≡ 2 ^ W → last < 2 ^ W → at + length records ≤ length old
-        → (readRecords W (length (rangeBlocks W first last)) (drop at new) ≡ rangeBlocks W first last) × (take at new ≡ take at old) × (drop next new ≡ drop next old)
+        → (readRecords W (length (rangeBlocks W first last)) (drop at new) ≡ rangeBlocks W first last)
+        × (next ≡ at + recordSize W * length (rangeBlocks W first last))
+        × (take at new ≡ take at old)
+        × (drop next new ≡ drop next old)
     unfolding placed
     held whole top h =
         let yes = le-leb (at + length records) (length old) h in
@@ -83,6 +86,7 @@ module _ (W first last : ℕ) where
         let end : next ≡ at + length records = p .index ∙ ap (λ b. cond b (at + length records) at) yes in
         let rest : drop at new ≡ records ++ behind = ap (drop at) is ∙ drop-at front (records ++ behind) at short in (
           ap (readRecords W (length (rangeBlocks W first last))) rest ∙ records-back W whole (rangeBlocks W first last) (range-fewest W first last top .blocks) behind,
+          end ∙ ap (λ (n : ℕ). at + n) (records-length W (rangeBlocks W first last)),
           ap (take at) is ∙ take-at front (records ++ behind) at short,
           ap (λ (n : ℕ). drop n new) end
               ∙ sym (drop-drop (length records) at new)

@@ -1,14 +1,16 @@
 -- Runs of addresses that differ in 64 bits at most, and how far the code is with one: what the contracts of private functions cite.
--- Those of public functions cite `rangeBlocks` of `cover` alone. Assumes nothing.
+-- Those of public functions cite no definition of this file. Assumes nothing.
 use mathlib.Core.Path.{_≡_}
 use mathlib.Core.Bool.{cond}
 use mathlib.Core.List.{List, [], _∷_, _++_}
 use Prim.Native.Nat.{ℕ, suc, _+_, _-_, _*_, _%_, _^_, _≤_, _<_}
 use lib.Dec.{eqb}
 use lib.ListN.{length}
+use Rattle.wide.specs.Value.{value}
 use Rattle.cover.specs.Blocks.{Block, rangeBlocks}
 use Rattle.output.specs.Placing.{Puts}
 use Rattle.records.specs.Records.{recordOf, recordsOf}
+use Rattle.runs.specs.declared.Run.{Run}
 
 -- ---- which bits of its addresses a run counts in
 
@@ -54,7 +56,8 @@ runRecords lane first last = recordsOf (laneWidth lane) (laneBlocks lane (rangeB
 
 -- ---- a run in two parts
 
--- up to a multiple of a power of two, less than that power away, and on from there, by less than twice that power
+-- up to a multiple of a power of two, less than that power away, and on from there, by less than twice that power; the power is not above
+-- the number of numbers up to the last
 pub record Parts (first last rise fall : ℕ) : Type 0 where
   pub bits : ℕ
   pub room : 2 ^ bits ≤ suc last
@@ -91,6 +94,13 @@ Climbed lane first rise old at now next =
     (last fall : ℕ) → RunFits lane first last at old → Parts first last rise fall → Walk lane first last old at now next (first + rise) 0 fall
 
 -- ---- a range as runs
+
+-- a run as the code answers it: the numbers from a to b of the lane l, up to the address e
+pub record RunIs (r : Run) (l : Lane) (a b e : ℕ) : Type 0 where
+  pub lane : laneOf (r .longest) (r .hi) ≡ l
+  pub first : r .first ≡ a
+  pub last : r .last ≡ b
+  pub end : value (r .end) ≡ e
 
 -- The first run of the range from start to last, of addresses of W bits: the numbers from a to b of a lane, up to the address `end`.
 pub record FirstRun (W start last : ℕ) (lane : Lane) (a b end : ℕ) : Type 0 where

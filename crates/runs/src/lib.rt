@@ -1,7 +1,7 @@
-// Ranges of addresses into the fewest blocks, as records in a lent buffer. A range of IPv6 addresses is three runs at most, each of which
-// differs in one half only, so that one walk among numbers of 64 bits serves both families.
+// Ranges of addresses into the fewest blocks, as records in a lent buffer. A range of IPv6 addresses that is not all of them is three runs
+// at most, each of which differs in one half only, so that one walk among numbers of 64 bits serves both families.
 ghost use mathlib.Core.Path.{_≡_};
-ghost use Prim.Native.Nat.{ℕ, _+_, _-_, _≤_, _<_, _^_};
+ghost use Prim.Native.Nat.{ℕ, _+_, _-_, _*_, _≤_, _<_, _^_};
 ghost use lib.Dec.{leb, eqb};
 ghost use lib.ListN.{length};
 ghost use Rattle.cover.specs.Blocks.{rangeBlocks};
@@ -9,7 +9,7 @@ ghost use Rattle.wide.specs.Value.{value};
 ghost use Rattle.address.specs.Addresses.{width};
 ghost use Rattle.output.specs.Placing.{Puts, PutsAll};
 ghost use Rattle.records.specs.Records.{recordSize, blockRecord, recordsOf};
-ghost use Rattle.runs.specs.Runs.{laneOf, laneBits, laneWidth, laneRecord, runRecords, Parts, RunFits, Climbs, Climbed, FirstRun};
+ghost use Rattle.runs.specs.Runs.{Lower, Upper, RunIs, laneOf, laneBits, laneWidth, laneRecord, runRecords, Parts, RunFits, Climbs, Climbed, FirstRun};
 use address::Address;
 use address::Block;
 use records::fill_record;
@@ -46,8 +46,8 @@ fn lane_block(longest: u32, hi: u64, start: u64, bits: u32) -> Block
 }
 
 // How many bytes a record has.
-fn lane_size(longest: u32, hi: u64) -> usize
-    ensures { λ r. ⌜ r ≡ recordSize (laneWidth (laneOf longest hi)) ⌝ }
+fn lane_size(longest: u32) -> usize
+    ensures { λ r. ⌜ ((hi : ℕ) → r ≡ recordSize (laneWidth (laneOf longest hi))) ⌝ }
 {
     if longest == 32 { 5 } else { 17 }
 }
@@ -58,7 +58,7 @@ fn put_one(longest: u32, hi: u64, start: u64, bits: u32, out: &mut [u8], at: usi
     ensures { λ r. ⌜ Puts (now (out .entry)) (now (out .exit)) at r (laneRecord (laneOf longest hi) start bits) ⌝ }
 {
     fill_record(lane_block(longest, hi, start, bits), &mut out[at..]);
-    at + lane_size(longest, hi)
+    at + lane_size(longest)
 }
 
 // How many numbers the rising and the falling part of a run have.
@@ -164,13 +164,39 @@ fn put_run(longest: u32, hi: u64, first: u64, last: u64, out: &mut [u8], at: usi
     put_parts(longest, hi, first, rise, fall, out, at)
 }
 
-// The first run of a range, and the address that it ends at.
+// A run of IPv6 addresses, and the address that it ends at.
 struct Run {
     longest: u32,
     hi: u64,
     first: u64,
     last: u64,
     end: Wide,
+}
+
+// The lower halves from first to last, below an upper half.
+fn lower_run(hi: u64, first: u64, last: u64) -> Run
+    ensures { λ r. ⌜ RunIs r (Lower hi) first last (hi * 2 ^ 64 + last) ⌝ }
+{
+    Run {
+        longest: 128,
+        hi,
+        first,
+        last,
+        end: Wide { hi, lo: last },
+    }
+}
+
+// The upper halves from first to last, each with all its lower halves.
+fn upper_run(first: u64, last: u64) -> Run
+    ensures { λ r. ⌜ RunIs r Upper first last (last * 2 ^ 64 + 18446744073709551615) ⌝ }
+{
+    Run {
+        longest: 64,
+        hi: 0,
+        first,
+        last,
+        end: Wide { hi: last, lo: MOST },
+    }
 }
 
 // The first run of the range of IPv6 addresses from first to last: up to the end of its lower half, over all whole lower halves, or into
@@ -185,50 +211,17 @@ fn next_run(first: Wide, last: Wide) -> Run
     let bl = last.lo;
     if bh <= ah {
         if MOST <= bl - al {
-            return Run {
-                longest: 64,
-                hi: 0,
-                first: ah,
-                last: bh,
-                end: last,
-            };
+            return upper_run(ah, bh);
         }
-        return Run {
-            longest: 128,
-            hi: ah,
-            first: al,
-            last: bl,
-            end: last,
-        };
+        return lower_run(ah, al, bl);
     }
     if 0 < al {
-        return Run {
-            longest: 128,
-            hi: ah,
-            first: al,
-            last: MOST,
-            end: Wide { hi: ah, lo: MOST },
-        };
+        return lower_run(ah, al, MOST);
     }
     if MOST <= bl {
-        return Run {
-            longest: 64,
-            hi: 0,
-            first: ah,
-            last: bh,
-            end: last,
-        };
+        return upper_run(ah, bh);
     }
-    Run {
-        longest: 64,
-        hi: 0,
-        first: ah,
-        last: bh - 1,
-        end: Wide {
-            hi: bh - 1,
-            lo: MOST,
-        },
-    }
+    upper_run(ah, bh - 1)
 }
 
 // Whether the range is all IPv6 addresses: their number has no room in 128 bits.
@@ -251,11 +244,11 @@ fn count_runs(first: Wide, last: Wide) -> usize
     loop {
         let run = next_run(start, last);
         n += run_count(run.first, run.last);
-        let end = run.end;
-        if !end.less(last) {
+        let reached = run.end;
+        if !reached.less(last) {
             return n;
         }
-        start = end.saturating_add(Wide { hi: 0, lo: 1 });
+        start = reached.saturating_add(Wide { hi: 0, lo: 1 });
     }
 }
 

@@ -1,7 +1,7 @@
 // Numbers of 128 bits as two halves of 64, by value. An IPv4 address is one whose upper half is 0.
 // No operation wraps: a sum stops at the largest number and a difference at 0.
 ghost use mathlib.Core.Path.{_≡_};
-ghost use Prim.Native.Nat.{_+_, _-_, _*_, _/_, _%_, _^_, min};
+ghost use Prim.Native.Nat.{_+_, _-_, _*_, _%_, _^_, min};
 ghost use lib.Dec.{ltb, eqb};
 ghost use lib.Count.{trailingZeros};
 ghost use Rattle.wide.specs.Value.{value};

@@ -1,8 +1,9 @@
 -- `runs::next_run` meets its contract. Assumes nothing.
-use Prim.Native.Nat.{_^_, _≤_, _<_}
+use mathlib.Core.Path.{_≡_, refl, ap}
+use Prim.Native.Nat.{ℕ, _+_, _*_, _^_, _≤_, _<_}
 use native.Mathlib.Omega.{arith}
 use borrow.Author.Needs.{needs}
-use Rattle.runs.proofs.LaneLaws.{high-rises, low-rises, first-half, first-up, first-over, first-into, over-short}
+use Rattle.runs.proofs.LaneLaws.{high-rises, low-rises, first-half, first-up, first-over, first-into, run-first, over-short}
 use Rattle.runs.proofs.next_run.Statement.{statement}
 use Rattle.runs.proofs.next_run.Tie as tie
 
@@ -22,43 +23,75 @@ rises t = let s = t .before in low-rises (2 ^ 64) _ _ _ _ (t .if1 .taken) (s .pr
 sub-if2 : tie.Need-sub-if2
 sub-if2 c = rises c
 
+upper-run-requires : tie.Need-upper-run-requires
+upper-run-requires c κs = search needs
+
 returns : tie.Need-returns
 returns c =
-    let t = c .before in
+    let b = c .before in
+    let t = b .before in
     let s = t .before in
     let up = high-rises (2 ^ 64) _ _ _ _ (s .pre .0) (bl s) in
-    let low : s .args .first .lo ≤ 0 = omega (arith, c .if2 .taken, bl s) in
-    first-over _ _ _ _ (al s) (bl s) (bh s) low up (omega (arith, c .if2 .taken)) (omega (arith, t .if1 .taken))
+    let low : s .args .first .lo ≤ 0 = omega (arith, b .if2 .taken, bl s) in
+    run-first (c .upper-run .ensures) _ (omega (arith, b .if2 .taken, bl s)) (first-over _ _ _ _ (al s) (bl s) (bh s) low up (omega (arith, b .if2 .taken)) (omega (arith, t .if1 .taken)))
+
+lower-run-requires : tie.Need-lower-run-requires
+lower-run-requires c κs = search needs
 
 returns-2 : tie.Need-returns-2
 returns-2 c =
-    let t = c .before in
+    let b = c .before in
+    let t = b .before in
     let s = t .before in
-    first-half _ _ _ _ (al s) (bl s) (bh s) (s .pre .0) (t .if1 .taken) (c .if2 .left)
+    let up = high-rises (2 ^ 64) _ _ _ _ (s .pre .0) (bl s) in
+    let same : s .args .first .hi ≡ s .args .last .hi = omega (arith, t .if1 .taken) in
+    run-first (c .lower-run .ensures) _ (ap (λ (n : ℕ). n * 2 ^ 64 + s .args .last .lo) same) (first-half _ _ _ _ (al s) (bl s) (bh s) (s .pre .0) (t .if1 .taken) (b .if2 .left))
+
+lower-run-requires-2 : tie.Need-lower-run-requires-2
+lower-run-requires-2 c κs = search needs
 
 returns-3 : tie.Need-returns-3
 returns-3 c =
-    let s = c .before .before in
-    first-up _ _ _ _ (al s) (bl s) (bh s) (c .before .if1 .left) (c .if3 .taken)
+    let t = c .before in
+    let s = t .before .before in
+    run-first (c .lower-run2 .ensures) _ refl (first-up _ _ _ _ (al s) (bl s) (bh s) (t .before .if1 .left) (t .if3 .taken))
+
+upper-run-requires-2 : tie.Need-upper-run-requires-2
+upper-run-requires-2 c κs = search needs
 
 returns-4 : tie.Need-returns-4
 returns-4 c =
-    let s = c .before .before .before in
-    let zero' = c .before .if3 .left in
-    let less = over-short _ _ _ _ zero' (c .if4 .taken) (bl s) (bh s) (s .pre .1) in
-    first-over _ _ _ _ (al s) (bl s) (bh s) zero' (omega (arith, c .before .before .if1 .left)) (c .if4 .taken) less
+    let t = c .before in
+    let s = t .before .before .before in
+    let zero' = t .before .if3 .left in
+    let less = over-short _ _ _ _ zero' (t .if4 .taken) (bl s) (bh s) (s .pre .1) in
+    run-first (c .upper-run2 .ensures) _ (omega (arith, t .if4 .taken, bl s)) (first-over _ _ _ _ (al s) (bl s) (bh s) zero' (omega (arith, t .before .before .if1 .left)) (t .if4 .taken) less)
 
-sub-t11 : tie.Need-sub-t11
-sub-t11 c = omega (arith, c .before .before .if1 .left)
+sub-upper-run : tie.Need-sub-upper-run
+sub-upper-run c = omega (arith, c .before .before .if1 .left)
 
-sub-t12 : tie.Need-sub-t12
-sub-t12 c = omega (arith, c .before .before .if1 .left)
+upper-run-requires-3 : tie.Need-upper-run-requires-3
+upper-run-requires-3 c κs = search needs
 
 returns-5 : tie.Need-returns-5
 returns-5 c =
-    let s = c .before .before .before in
-    first-into _ _ _ _ (al s) (bl s) (bh s) (c .before .if3 .left) (c .before .before .if1 .left) (c .if4 .left)
+    let t = c .before in
+    let s = t .before .before .before in
+    run-first (c .upper-run3 .ensures) _ refl (first-into _ _ _ _ (al s) (bl s) (bh s) (t .before .if3 .left) (t .before .before .if1 .left) (t .if4 .left))
 
 pub next-run-spec : {M : Type 1} → statement M
 next-run-spec =
-    tie.close (tie.spec sub-if2 returns returns-2 returns-3 returns-4 sub-t11 sub-t12 returns-5)
+    tie.close
+    (tie.spec
+    sub-if2
+    upper-run-requires
+    returns
+    lower-run-requires
+    returns-2
+    lower-run-requires-2
+    returns-3
+    upper-run-requires-2
+    returns-4
+    sub-upper-run
+    upper-run-requires-3
+    returns-5)

@@ -1,5 +1,6 @@
 -- `runs::put_one` meets its contract. Assumes nothing.
 use mathlib.Core.Path.{sym, _∙_}
+use native.Mathlib.Omega.{arith}
 use borrow.Author.Needs.{needs}
 use Rattle.records.proofs.RecordLaws.{fill-whole}
 use Rattle.runs.specs.Runs.{laneOf}
@@ -26,7 +27,7 @@ lane-size-requires : tie.Need-lane-size-requires
 lane-size-requires c κs = search needs
 
 add-result : tie.Need-add-result
-add-result c = search needs
+add-result c = let s = c .before .before .before .before .before .before .before in let size = c .lane-size .ensures (s .args .hi) in omega (arith, s .pre .2)
 
 same-length : tie.Need-same-length
 same-length c = search needs
@@ -36,8 +37,9 @@ returns c =
     let b = c .before .before .before .before .before in
     let s = b .before .before in
     let a = s .args in
+    let size = c .lane-size .ensures (a .hi) in
     let room = rest-room (a .out .now) (a .at) _ _ (b .lane-block .ensures .1) (s .pre .2) in
-    puts-same (b .lane-block .ensures .0) (lane-length (laneOf (a .longest) (a .hi)) (a .start) (a .bits) ∙ sym (c .lane-size .ensures)) (rw (c .lane-size .ensures) (s .pre .2))
+    puts-same (b .lane-block .ensures .0) (lane-length (laneOf (a .longest) (a .hi)) (a .start) (a .bits) ∙ sym size) (rw size (s .pre .2))
     (c .before .before .before .fill-record .ensures ∙ fill-whole (b .lane-block .result) _ room)
 
 pub put-one-spec : {M : Type 1} → statement M
