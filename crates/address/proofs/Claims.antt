@@ -92,7 +92,7 @@ module _ {A : Type 0} where
   pub gives-one : {a b : A} → gives a ≡ gives b → a ≡ b
   gives-one h = ap (λ (r : Answer A). r .fields) h
 
-  gives-refuses : {a zeros : A} (e : Refusal) → gives a ≡ refuses zeros e → ⊥
+  pub gives-refuses : {a zeros : A} (e : Refusal) → gives a ≡ refuses zeros e → ⊥
   gives-refuses e h = omega (arith, number-above-0 e, ap (λ (r : Answer A). r .number) h)
 
   refuses-one : {zeros : A} (e f : Refusal) → refuses zeros e ≡ refuses zeros f → e ≡ f

@@ -45,7 +45,7 @@ module _ (t : List ℕ) where
   answer-long h = rw (lt-ltb 64 (length t) h)
 
   module _ (short : length t ≤ 64) where
-    answer-malformed : blockOf t ≡ none → refuses noBlock Malformed ≡ blockTextAnswer t
+    pub answer-malformed : blockOf t ≡ none → refuses noBlock Malformed ≡ blockTextAnswer t
     unfolding blockTextAnswer readAnswer
     answer-malformed h = rw (h, le-ltb 64 (length t) short)
 

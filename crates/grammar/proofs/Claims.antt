@@ -1,0 +1,373 @@
+-- What is claimed of the published grammar and of the loose, network and block forms: reading accepts exactly their texts, answers what they
+-- mean and refuses all others by their numbers. Assumes nothing.
+use mathlib.Core.Path.{_≡_, refl, sym, ap, subst, subst₂, _∙_}
+use mathlib.Core.List.{List, [], _∷_, _++_}
+use mathlib.Core.Logic.{_⊎_, inl, inr, _↔_}
+use mathlib.Core.Option.{some}
+use Prim.Native.Nat.{ℕ, _+_, _-_, _*_, _/_, _%_, _^_, _≤_, _<_}
+use native.Mathlib.Omega.{arith}
+use lib.ListN.{length, drop, replicate}
+use Rattle.address.specs.declared.Address.{Address}
+use Rattle.address.specs.declared.Address.the-variants.{V4}
+use Rattle.address.specs.declared.Block.{Block}
+use Rattle.address.specs.declared.BlockReading.{BlockReading}
+use Rattle.address.specs.declared.Reading.{Reading}
+use Rattle.address.specs.declared.Reading.the-variants.{Read}
+use Rattle.address.specs.declared.Refusal.{Refusal}
+use Rattle.address.specs.Addresses.{IsAddress, family, width, number}
+use Rattle.address.specs.Answers.{Answer, gives, refuses, refusalNumber, noAddress, noBlock, readAnswer, writeAnswer, writeLeaves, readingAnswer, blockAnswer, writingAnswer}
+use Rattle.address.specs.declared.Writing.{Writing}
+use Rattle.address.proofs.Claims.{one-reading}
+use Rattle.octets.specs.BigEndian.{AllBelow, digitsOf, numberOf}
+use Rattle.octets.specs.Octets.{octets}
+use Rattle.digits.specs.Numerals.{partOf, groupOf, decimal}
+use Rattle.dotted.specs.Dotted.{dottedOf}
+use Rattle.groups.specs.EightGroups.{eightOf}
+use Rattle.text.specs.Strict.{strictOf, strictAnswer}
+use Rattle.normal.specs.Normal.{normalText}
+use Rattle.normal.proofs.Claims as normal
+use Rattle.loose.specs.Loose.{loosePart, looseOf, looseAnswer}
+use Rattle.given.specs.GivenBytes.{givenOf, zeroFilled}
+use Rattle.network_text.specs.NetworkText.{cleared, networkText, writeReasons}
+use Rattle.network.specs.declared.NetworkReading.{NetworkReading}
+use Rattle.network.specs.Network.{Network, networkOf, networkAnswer, networkLeaves, networkReadingAnswer}
+use Rattle.network.proofs.Claims as network
+use Rattle.blocks.specs.BlockText.{blockOf, blockTextAnswer, blockText}
+use Rattle.blocks.proofs.Claims as blocks
+use Rattle.grammar.specs.Rfc3986.{dot, HEXDIG, digit-string, dec-octet, IPv4address, h16, IPv6address}
+use Rattle.grammar.specs.StrictForm.{IPv4Text, IPv6Text, StrictForm, four, six, either-4, either-6, StrictCall, strict}
+use Rattle.grammar.specs.LooseForm.{OCTDIG, loose-part, LooseForm, LooseCall, loose}
+use Rattle.grammar.specs.NetworkForm.{bytes-given, size-part, inferred-size, NetworkForm, NetworkCall, network, WrittenForm, WritingCall}
+use Rattle.grammar.specs.BlockForm.{BlockForm, BlockCall, block}
+use Rattle.grammar.proofs.NumberLaws.{octet-reads, reads-octet, h16-reads, reads-h16, size-reads, reads-size, size-999, size-spelling}
+use Rattle.grammar.proofs.DottedLaws.{address-reads, address-octets, octets-address, one-spelling}
+use Rattle.grammar.proofs.GrammarLaws.{grammar-reads, reads-grammar}
+use Rattle.grammar.proofs.LengthLaws as lengths
+use Rattle.grammar.proofs.CallLaws.{answers-exactly, refuses-exactly}
+use Rattle.grammar.proofs.StrictFormLaws as strict-laws
+use Rattle.grammar.proofs.LoosePartLaws.{part-reads, reads-part}
+use Rattle.grammar.proofs.LooseFormLaws as loose-laws
+use Rattle.grammar.proofs.LimitLaws as limits
+use Rattle.grammar.proofs.GivenLaws.{given-reads, reads-given}
+use Rattle.grammar.proofs.NetworkFormLaws as network-laws
+use Rattle.grammar.proofs.NetworkCallLaws as calls
+use Rattle.grammar.proofs.WrittenLaws as written-laws
+use Rattle.grammar.proofs.BlockFormLaws as block-laws
+
+-- ---- strict text
+
+-- Demand 2, "Reading accepts exactly the strict texts of the published rules": a text has an address exactly if the grammar has the text and
+-- the text means that address.
+module _ (t : List ℕ) (a : Address) where
+  pub family-4 : (strictOf 4 t ≡ some a) ↔ IPv4Text t a
+  family-4 = (λ e. from (strict-laws.reads-4 t a e), λ h. strict-laws.form-reads (four h))
+    where
+      from : {s : List ℕ} {b : Address} → StrictForm 4 s b → IPv4Text s b
+      from (four h) = h
+
+  pub family-6 : (strictOf 6 t ≡ some a) ↔ IPv6Text t a
+  family-6 = (λ e. from (strict-laws.reads-6 t a e), λ h. strict-laws.form-reads (six h))
+    where
+      from : {s : List ℕ} {b : Address} → StrictForm 6 s b → IPv6Text s b
+      from (six h) = h
+
+  pub family-0 : (strictOf 0 t ≡ some a) ↔ (IPv4Text t a ⊎ IPv6Text t a)
+  family-0 = (λ e. from (strict-laws.reads-0 t a e), λ h. back h)
+    where
+      from : {s : List ℕ} {b : Address} → StrictForm 0 s b → IPv4Text s b ⊎ IPv6Text s b
+      from (either-4 h) = inl h
+      from (either-6 h) = inr h
+
+      back : IPv4Text t a ⊎ IPv6Text t a → strictOf 0 t ≡ some a
+      back (inl h) = strict-laws.form-reads (either-4 h)
+      back (inr h) = strict-laws.form-reads (either-6 h)
+
+module _ (family : ℕ) (t : List ℕ) where
+  -- The whole answer of the call, refused calls too, whatever the family number.
+  pub strict-answers : (r : Answer Address) → (strictAnswer family t ≡ r) ↔ StrictCall family t r
+  unfolding strictAnswer readAnswer
+  strict-answers = answers-exactly (StrictCall family t) noAddress _ _ (strict-laws.answers-call family t) (λ r c. strict-laws.call-answers family t c)
+
+  -- Each refusal is given exactly when its sentence says so: see the constructor with that refusal.
+  pub strict-refuses : (e : Refusal) → (strictAnswer family t .number ≡ refusalNumber e) ↔ StrictCall family t (refuses noAddress e)
+  unfolding strictAnswer readAnswer
+  strict-refuses = refuses-exactly (StrictCall family t) noAddress _ _ (strict-laws.answers-call family t) (λ r c. strict-laws.call-answers family t c)
+
+  -- An address is given exactly if the grammar has the text, and it means that address.
+  pub strict-accepts : (a : Address) → (strictAnswer family t ≡ gives a) ↔ StrictForm family t a
+  strict-accepts a = (strict-laws.gives-form family t a (strict-laws.answers-call family t), λ h. strict-laws.call-answers family t (strict h))
+
+  -- So does whatever answers as `read_address` promises to.
+  pub strict-reader : (r : Reading) → readingAnswer r ≡ strictAnswer family t → (a : Address) → (r ≡ Read a) ↔ StrictForm family t a
+  strict-reader r promise a =
+      (λ e. strict-accepts a .0 (sym promise ∙ ap readingAnswer e), λ h. one-reading r (Read a) (promise ∙ strict-accepts a .1 h))
+
+-- ---- rule by rule
+
+-- `dec-octet`: "A part is 0 to 255 in decimal digits with no leading zero, except `0` itself".
+pub part-exactly : (t : List ℕ) (x : ℕ) → (partOf 255 t ≡ some x) ↔ dec-octet t x
+part-exactly t x = (reads-octet t x, octet-reads)
+
+-- `IPv4address`, by its four octets: "exactly four parts with single dots".
+pub dotted-exactly : (t os : List ℕ) → ((length os ≡ 4) × AllBelow 256 os × (dottedOf t ≡ some (numberOf 256 os))) ↔ IPv4address t os
+dotted-exactly t os = (λ h. octets-address t os (h .0) (h .1) (h .2), λ h. (address-octets h .0, address-octets h .1, address-reads h))
+
+-- `h16`: "one to four hex digits, either case".
+pub group-exactly : (t : List ℕ) (x : ℕ) → (groupOf t ≡ some x) ↔ h16 t x
+group-exactly t x = (reads-h16 t x, h16-reads)
+
+-- `IPv6address`, by its eight groups.
+pub eight-exactly : (t gs : List ℕ) → (eightOf t ≡ some gs) ↔ IPv6address t gs
+eight-exactly t gs = (reads-grammar t gs, grammar-reads)
+
+-- the size of a network and the length of a block: "one to three digits, no leading zero except `0`".
+pub size-exactly : (t : List ℕ) (n : ℕ) → (partOf 999 t ≡ some n) ↔ size-part t n
+size-exactly t n = (λ e. reads-size 999 t n e .0, λ h. size-reads 999 h (size-999 h))
+
+-- ---- one spelling, one meaning
+
+-- An accepted IPv4 text is the normal text of the address that it means: no `00` and no `010`.
+pub one-IPv4-text : (t : List ℕ) (a : Address) → IPv4Text t a → normalText a ≡ t
+one-IPv4-text t a = strict-laws.text-spelling
+
+-- A text means one address, whatever family is asked for.
+pub one-meaning : (f g : ℕ) (t : List ℕ) (a b : Address) → StrictForm f t a → StrictForm g t b → a ≡ b
+one-meaning f g t a b h k = let p = strict-laws.form-reads (either h) in let q = strict-laws.form-reads (either k) in cc
+  where
+    either : {f : ℕ} {t : List ℕ} {a : Address} → StrictForm f t a → StrictForm 0 t a
+    either (four h) = either-4 h
+    either (six h) = either-6 h
+    either (either-4 h) = either-4 h
+    either (either-6 h) = either-6 h
+
+-- Normal text is strict text of its address, asked for by its family or by 0.
+pub normal-is-strict : (a : Address) → IsAddress a → StrictForm 0 (normalText a) a × StrictForm (family a) (normalText a) a
+normal-is-strict a is =
+    let back = normal.read-back-answer a is in
+    (strict-accepts 0 (normalText a) a .0 (back .0), strict-accepts (family a) (normalText a) a .0 (back .1))
+
+-- ---- lengths
+
+-- No text of these forms is longer than 49 bytes, so that refusal 1, beyond 64, meets none; of the loose form "any number of leading zeros"
+-- may be longer.
+pub at-most-15 : {t os : List ℕ} → IPv4address t os → length t ≤ 15
+at-most-15 = lengths.address-4-most
+
+pub at-most-45 : {t gs : List ℕ} → IPv6address t gs → length t ≤ 45
+at-most-45 = lengths.address-6-most
+
+pub at-most-19 : {t ws : List ℕ} {size : ℕ} → NetworkForm t size ws → length t ≤ 19
+at-most-19 = lengths.network-most
+
+pub at-most-49 : {t : List ℕ} {a : Address} {n : ℕ} → BlockForm t a n → length t ≤ 49
+at-most-49 = lengths.block-most
+
+-- ---- the loose form
+
+module _ (t : List ℕ) where
+  -- 01, "Loose IPv4 form": a text has an address exactly if it is of the form and means that address.
+  pub loose-exactly : (a : Address) → (looseOf t ≡ some a) ↔ LooseForm t a
+  loose-exactly a = (loose-laws.reads-form t a, loose-laws.form-reads)
+
+  -- The whole answer of the call, refused calls too, and each refusal.
+  pub loose-answers : (r : Answer Address) → (looseAnswer t ≡ r) ↔ LooseCall t r
+  unfolding looseAnswer readAnswer
+  loose-answers = answers-exactly (LooseCall t) noAddress _ _ (loose-laws.answers-call t) (λ r c. loose-laws.call-answers t c)
+
+  pub loose-refuses : (e : Refusal) → (looseAnswer t .number ≡ refusalNumber e) ↔ LooseCall t (refuses noAddress e)
+  unfolding looseAnswer readAnswer
+  loose-refuses = refuses-exactly (LooseCall t) noAddress _ _ (loose-laws.answers-call t) (λ r c. loose-laws.call-answers t c)
+
+  -- An address is given exactly if the text is "within 64 bytes", of the form, and means that address.
+  pub loose-accepts : (a : Address) → (looseAnswer t ≡ gives a) ↔ ((length t ≤ 64) × LooseForm t a)
+  loose-accepts a = (loose-laws.gives-form t a (loose-laws.answers-call t), λ h. loose-laws.call-answers t (loose (h .0) (h .1)))
+
+  -- So does whatever answers as `read_loose` promises to.
+  pub loose-reader : (r : Reading) → readingAnswer r ≡ looseAnswer t → (a : Address) → (r ≡ Read a) ↔ ((length t ≤ 64) × LooseForm t a)
+  loose-reader r promise a = (λ e. loose-accepts a .0 (sym promise ∙ ap readingAnswer e), λ h. one-reading r (Read a) (promise ∙ loose-accepts a .1 h))
+
+  -- A text means one address.
+  pub loose-one-meaning : (a b : Address) → LooseForm t a → LooseForm t b → a ≡ b
+  loose-one-meaning a b h k = let p = loose-laws.form-reads h in let q = loose-laws.form-reads k in cc
+
+  -- "A part is hexadecimal [...], else octal [...], else decimal.": it is read as its number, and has one.
+  pub loose-part-exactly : (n : ℕ) → (loosePart t ≡ some n) ↔ loose-part t n
+  loose-part-exactly n = (reads-part t n, part-reads)
+
+  pub loose-part-one : (m n : ℕ) → loose-part t m → loose-part t n → m ≡ n
+  loose-part-one m n = limits.one-value
+
+-- A strict IPv4 text is loose, and means the same.
+pub strict-is-loose : {t : List ℕ} {a : Address} → IPv4Text t a → LooseForm t a
+strict-is-loose = loose-laws.strict-form
+
+-- "Every part but the last is at most 255. The last is at most 255, 65,535, 16,777,215 or 4,294,967,295 where there are four, three, two or one
+-- parts": parts within these limits are a text of the form, other parts are none, and this is what they mean.
+module _ {s : List ℕ} {a : ℕ} (g : loose-part s a) (v : Address) where
+  pub most-of-one : LooseForm s v ↔ ((a ≤ 4294967295) × (v ≡ V4 a))
+  most-of-one = limits.limit-1 g v
+
+  module _ {t : List ℕ} {b : ℕ} (h : loose-part t b) where
+    pub most-of-two : LooseForm (s ++ dot ∷ t) v ↔ ((a ≤ 255) × (b ≤ 16777215) × (v ≡ V4 (a * 16777216 + b)))
+    most-of-two = limits.limit-2 g h v
+
+    module _ {u : List ℕ} {c : ℕ} (i : loose-part u c) where
+      pub most-of-three : LooseForm (s ++ dot ∷ (t ++ dot ∷ u)) v ↔ ((a ≤ 255) × (b ≤ 255) × (c ≤ 65535) × (v ≡ V4 ((a * 256 + b) * 65536 + c)))
+      most-of-three = limits.limit-3 g h i v
+
+      module _ {w : List ℕ} {d : ℕ} (j : loose-part w d) where
+        pub most-of-four : LooseForm (s ++ dot ∷ (t ++ dot ∷ (u ++ dot ∷ w))) v
+            ↔ ((a ≤ 255) × (b ≤ 255) × (c ≤ 255) × (d ≤ 255) × (v ≡ V4 (((a * 256 + b) * 256 + c) * 256 + d)))
+        most-of-four = limits.limit-4 g h i j v
+
+        -- "One to four parts."
+        pub not-five : {x : List ℕ} {e : ℕ} → loose-part x e → LooseForm (s ++ dot ∷ (t ++ dot ∷ (u ++ dot ∷ (w ++ dot ∷ x)))) v → ⊥
+        not-five k = limits.limit-5 g h i j k v
+
+-- The last part "fills the remaining bytes": the octets of the address.
+pub fills-four : (a : ℕ) → a ≤ 4294967295 → octets (V4 a) ≡ a / 16777216 ∷ a / 65536 % 256 ∷ a / 256 % 256 ∷ a % 256 ∷ []
+fills-four = limits.fill-1
+
+pub fills-three : (a b : ℕ) → a ≤ 255 → b ≤ 16777215 → octets (V4 (a * 16777216 + b)) ≡ a ∷ b / 65536 ∷ b / 256 % 256 ∷ b % 256 ∷ []
+fills-three = limits.fill-2
+
+pub fills-two : (a b c : ℕ) → a ≤ 255 → b ≤ 255 → c ≤ 65535 → octets (V4 ((a * 256 + b) * 65536 + c)) ≡ a ∷ b ∷ c / 256 ∷ c % 256 ∷ []
+fills-two = limits.fill-3
+
+pub fills-one : (a b c d : ℕ) → a ≤ 255 → b ≤ 255 → c ≤ 255 → d ≤ 255 → octets (V4 (((a * 256 + b) * 256 + c) * 256 + d)) ≡ a ∷ b ∷ c ∷ d ∷ []
+fills-one = limits.fill-4
+
+-- "Any number of leading zeros is allowed": k of them before the digits of an octal or a hexadecimal part leave it the number of the digits.
+module _ (k : ℕ) {t : List ℕ} {n : ℕ} where
+  pub octal-leading : digit-string 8 OCTDIG t n → (m : ℕ) → loose-part (0x30 ∷ (replicate k 0x30 ++ t)) m ↔ (m ≡ n)
+  octal-leading = limits.octal-zeros k
+
+  pub x-leading : digit-string 16 HEXDIG t n → (m : ℕ) → loose-part (0x30 ∷ 0x78 ∷ (replicate k 0x30 ++ t)) m ↔ (m ≡ n)
+  x-leading = limits.hex-zeros-x k
+
+  pub X-leading : digit-string 16 HEXDIG t n → (m : ℕ) → loose-part (0x30 ∷ 0x58 ∷ (replicate k 0x30 ++ t)) m ↔ (m ≡ n)
+  X-leading = limits.hex-zeros-X k
+
+-- ---- the network form, read
+
+module _ (t : List ℕ) where
+  -- 01, "Network form": a text means a size and bytes exactly if it is of the form and means these.
+  pub network-exactly : (n : Network) → (networkOf t ≡ some n) ↔ NetworkForm t (n .size) (n .bytes)
+  network-exactly n = (network-laws.reads-network t n, network-laws.network-reads)
+
+  pub network-one-meaning : (m n : ℕ) (ws xs : List ℕ) → NetworkForm t m ws → NetworkForm t n xs → (m ≡ n) × (ws ≡ xs)
+  network-one-meaning m n ws xs = calls.same-network
+
+  -- "Either `0x`/`0X` and one to eight hex digits, or one to four strict decimal parts"
+  pub given-exactly : (bs : List ℕ) → (givenOf t ≡ some bs) ↔ bytes-given t bs
+  given-exactly bs = (reads-given t bs, given-reads)
+
+module _ (t old : List ℕ) where
+  -- The whole answer and the whole buffer afterwards, refused calls too.
+  pub network-answers : (r : Answer (ℕ × ℕ)) (new : List ℕ) → ((networkAnswer t old ≡ r) × (networkLeaves t old ≡ new)) ↔ NetworkCall t old r new
+  network-answers r new = (λ e. subst₂ (NetworkCall t old) (e .0) (e .1) (network-laws.does-call t old), network-laws.call-does t old)
+
+  -- Each refusal, with the buffer that the call leaves.
+  pub network-refuses : (e : Refusal) → (networkAnswer t old .number ≡ refusalNumber e) ↔ NetworkCall t old (refuses (0, 0) e) (networkLeaves t old)
+  unfolding networkAnswer
+  network-refuses = refuses-exactly (λ r. NetworkCall t old r (networkLeaves t old)) (0, 0) _ _ (network-laws.does-call t old) (λ r c. network-laws.call-does t old c .0)
+
+  -- "The answer is the size and the number of bytes written." "A good answer changes only the first bytes it counts; later bytes stay."
+  pub network-stores : (size : ℕ) (ws : List ℕ) → NetworkForm t size ws → size ≤ 32 → length ws ≤ length old
+      → (networkAnswer t old ≡ gives (size, length ws)) × (networkLeaves t old ≡ ws ++ drop (length ws) old)
+  network-stores size ws f h k = network-laws.call-does t old (network f h k)
+
+  pub network-accepts : (size count : ℕ) → (networkAnswer t old ≡ gives (size, count))
+      ↔ ((ws : List ℕ) × NetworkForm t size ws × (size ≤ 32) × (length ws ≡ count) × (count ≤ length old))
+  network-accepts size count = (λ e. calls.says-good size count (network-laws.does-call t old) e, λ h. back (h .0) (h .1) (h .2) (h .3) (h .4))
+    where
+      back : (ws : List ℕ) → NetworkForm t size ws → size ≤ 32 → length ws ≡ count → count ≤ length old → networkAnswer t old ≡ gives (size, count)
+      back ws f h e k = network-stores size ws f h (omega arith) .0 ∙ ap (λ (n : ℕ). gives (size, n)) e
+
+  -- "no byte of a lent buffer differs from before"
+  pub network-refused : (networkAnswer t old .number ≡ 0 → ⊥) → networkLeaves t old ≡ old
+  network-refused = calls.refused-keeps (network-laws.does-call t old)
+
+  -- So does whatever answers and leaves as `read_network` promises to.
+  pub network-reader : (r : NetworkReading) (new : List ℕ) → networkReadingAnswer r ≡ networkAnswer t old → new ≡ networkLeaves t old
+      → NetworkCall t old (networkReadingAnswer r) new
+  network-reader r new e f = network-answers (networkReadingAnswer r) new .0 (sym e, sym f)
+
+-- A size that is not written is at most 32, so 4 is refused only behind a slash.
+pub inferred-at-most-32 : {t bs : List ℕ} {size : ℕ} → bytes-given t bs → inferred-size bs size → size ≤ 32
+inferred-at-most-32 = calls.size-most
+
+-- "the inferred size 4 is never widened"
+pub never-widened : {b size : ℕ} {bs : List ℕ} → 224 ≤ b → b < 240 → inferred-size (b ∷ bs) size → size ≡ 4
+never-widened = calls.four-stays
+
+-- One to four bytes are written, so a buffer of four has room for all.
+pub one-to-four-bytes : {t ws : List ℕ} {size : ℕ} → NetworkForm t size ws → size ≤ 32 → (1 ≤ length ws) × (length ws ≤ 4)
+one-to-four-bytes = calls.bytes-most
+
+-- ---- the network form, written
+
+-- The writer's text is the one of the form, of any address of 32 bits and any size up to 32.
+pub written-exactly : (v size : ℕ) → v < 2 ^ 32 → size ≤ 32 → (t : List ℕ) → (networkText v size ≡ t) ↔ WrittenForm v size t
+written-exactly v size small h t = (λ e. subst (WrittenForm v size) e (written-laws.text-written v size small h), λ w. written-laws.written-text small w)
+
+-- "Reading this gives the same size, and bytes which, filled with zeros to four, are the cleared address": what is written is of the form
+-- that is read.
+pub written-is-network : (v size : ℕ) → size ≤ 32
+    → (ws : List ℕ) × NetworkForm (networkText v size) size ws × (zeroFilled 4 ws ≡ digitsOf 256 4 (cleared 32 size v))
+written-is-network v size h =
+    let r = network.read-back v size h in
+    let t = networkText v size in
+    (r .0 .bytes, subst (λ (n : ℕ). NetworkForm t n (r .0 .bytes)) (r .2) (network-exactly t (r .0) .0 (r .1)), r .3)
+
+module _ (a : Address) (is : IsAddress a) (size : ℕ) (old : List ℕ) where
+  abbrev answered : Answer ℕ
+  answered = writeAnswer (writeReasons a size) (networkText (number a) size) old
+
+  abbrev left : List ℕ
+  left = writeLeaves (writeReasons a size) (networkText (number a) size) old
+
+  -- The whole answer of the writer and the whole buffer afterwards, refused calls too: 9 before 4 before 3.
+  pub writing-answers : (r : Answer ℕ) (new : List ℕ) → ((answered ≡ r) × (left ≡ new)) ↔ WritingCall a size old r new
+  writing-answers r new = (λ e. subst₂ (WritingCall a size old) (e .0) (e .1) (written-laws.does-call a is size old), written-laws.call-does a is size old)
+
+  pub writing-refuses : (e : Refusal) → (answered .number ≡ refusalNumber e) ↔ WritingCall a size old (refuses 0 e) left
+  unfolding writeAnswer
+  writing-refuses = refuses-exactly (λ r. WritingCall a size old r left) 0 _ _ (written-laws.does-call a is size old) (λ r c. written-laws.call-does a is size old c .0)
+
+  -- So does whatever answers and leaves as `write_network` promises to.
+  pub writing-writer : (r : Writing) (new : List ℕ) → writingAnswer r ≡ answered → new ≡ left → WritingCall a size old (writingAnswer r) new
+  writing-writer r new e f = writing-answers (writingAnswer r) new .0 (sym e, sym f)
+
+-- ---- block text
+
+module _ (t : List ℕ) where
+  -- "strict address text of either family, a slash, a length in the size's digits": a text means a block value exactly if it is of the form
+  -- and means that value.
+  pub block-exactly : (b : Block) → (blockOf t ≡ some b) ↔ BlockForm t (b .address) (b .length)
+  block-exactly b = (block-laws.reads-block t b, block-laws.block-reads)
+
+  -- The whole answer of the call, refused calls too, and each refusal.
+  pub block-answers : (r : Answer Block) → (blockTextAnswer t ≡ r) ↔ BlockCall t r
+  unfolding blockTextAnswer readAnswer
+  block-answers = answers-exactly (BlockCall t) noBlock _ _ (block-laws.answers-call t) (λ r c. block-laws.call-answers t c)
+
+  pub block-refuses : (e : Refusal) → (blockTextAnswer t .number ≡ refusalNumber e) ↔ BlockCall t (refuses noBlock e)
+  unfolding blockTextAnswer readAnswer
+  block-refuses = refuses-exactly (BlockCall t) noBlock _ _ (block-laws.answers-call t) (λ r c. block-laws.call-answers t c)
+
+  -- A block is given exactly if the text is of the form, and the value that it means keeps both rules.
+  pub block-accepts : (b : Block) → (blockTextAnswer t ≡ gives b)
+      ↔ (BlockForm t (b .address) (b .length) × (b .length ≤ width (b .address)) × (number (b .address) % 2 ^ (width (b .address) - b .length) ≡ 0))
+  block-accepts b = (block-laws.gives-form t b (block-laws.answers-call t), λ h. block-laws.call-answers t (block (h .0) (h .1) (h .2)))
+
+  -- So does whatever answers as `read_block` promises to.
+  pub block-reader : (r : BlockReading) → blockAnswer r ≡ blockTextAnswer t → BlockCall t (blockAnswer r)
+  block-reader r promise = block-answers (blockAnswer r) .0 (sym promise)
+
+-- What is written of a block value is of the form; and of IPv4 it is the only text that is.
+pub written-is-block : (b : Block) → IsAddress (b .address) → b .length ≤ 999 → BlockForm (blockText b) (b .address) (b .length)
+written-is-block b is l = block-exactly (blockText b) b .0 (blocks.read-back b is l)
+
+pub one-IPv4-block-text : (t : List ℕ) (v n : ℕ) → BlockForm t (V4 v) n → blockText (record { address = V4 v; length = n }) ≡ t
+one-IPv4-block-text t v n = block-laws.block-spelling

@@ -1,0 +1,146 @@
+-- Network text that is written: the form has one text, and the writer's answers. Assumes nothing.
+use mathlib.Core.Path.{_≡_, refl, sym, ap, ap₂, subst, subst₂, _∙_}
+use mathlib.Core.List.{List, [], _∷_, _++_, map}
+use mathlib.Core.Option.{some}
+use Prim.Native.Nat.{ℕ, zero, suc, _+_, _-_, _*_, _/_, _%_, _^_, _≤_, _<_, max}
+use native.Mathlib.Decide.{decLe}
+use native.Mathlib.Omega.{arith}
+use borrow.Author.Tests.{lt-ltb, le-ltb}
+use lib.Dec.{lit<}
+use lib.ListN.{length, take, drop}
+use lib.Pow.{split}
+use lib.Seq.{length-take-le}
+use Rattle.address.specs.declared.Address.{Address}
+use Rattle.address.specs.declared.Address.the-variants.{V4, V6}
+use Rattle.address.specs.Addresses.{IsAddress, family, number}
+use Rattle.address.specs.Answers.{Answer, writeAnswer, writeLeaves}
+use Rattle.address.proofs.AnswerLaws.{write-short, write-fits}
+use Rattle.octets.specs.BigEndian.{digitsOf}
+use Rattle.octets.specs.Octets.{octets}
+use Rattle.octets.proofs.DigitLaws.{digits-length, digits-below, below-take}
+use Rattle.octets.proofs.OctetLaws.{octets-4}
+use Rattle.digits.specs.Numerals.{decimal}
+use Rattle.digits.specs.Pieces.{separated}
+use Rattle.digits.proofs.NumeralLaws.{decimal-part}
+use Rattle.dotted.proofs.EveryLaws.{every-decimal}
+use Rattle.dotted.proofs.DottedLaws.{parts-spelling}
+use Rattle.network_text.specs.NetworkText.{sizeBytes, cleared, networkText, writeReasons}
+use Rattle.network_text.proofs.TextLaws.{cleared-high, write-6, write-large, write-sized}
+use Rattle.network.proofs.Claims.{cleared-bits, kept-bits, size-zero}
+use Rattle.grammar.specs.NetworkForm.{slash, decimal-parts, a·b·c·d, a·b·c, a·b, only-a, size-part, rounded-up, eighths, bits-cleared, clears, WrittenForm, first-bytes, size-0, WritingCall, wrong-family, size-above, text-above, writes}
+use Rattle.grammar.proofs.NumberLaws.{reads-size, size-spelling}
+use Rattle.grammar.proofs.GivenLaws.{reads-parts, parts-spelling-4}
+
+-- ---- the form has one text
+
+-- the cleared number is the only one
+cleared-is : {size v c : ℕ} → bits-cleared size v c → c ≡ cleared 32 size v
+cleared-is (clears {size} {v} {c} h z) =
+    let k = 32 - size in
+    let same : c / 2 ^ k * 2 ^ k ≡ v / 2 ^ k * 2 ^ k = ap (λ (q : ℕ). q * 2 ^ k) h in
+    omega (arith, split c k, cleared-high 32 size v)
+
+octets-count : (n v : ℕ) → n ≤ 4 → length (take n (digitsOf 256 4 v)) ≡ n
+octets-count n v h = length-take-le n (digitsOf 256 4 v) (omega (arith, digits-length 256 4 v))
+
+-- octets in decimal with dots
+octets-parts : (n v : ℕ) → 1 ≤ n → n ≤ 4 → decimal-parts (separated 46 (map decimal (take n (digitsOf 256 4 v)))) (take n (digitsOf 256 4 v))
+octets-parts n v any most =
+    let xs = take n (digitsOf 256 4 v) in
+    let long = octets-count n v most in
+    let small = below-take 256 n (digitsOf 256 4 v) (digits-below 256 (lit< tt) 4 v) in
+    reads-parts (separated 46 (map decimal xs)) xs (parts-spelling (map decimal xs) xs (every-decimal xs small) (omega arith) (omega arith))
+
+size-is : (size : ℕ) → size ≤ 32 → size-part (decimal size) size
+size-is size h = reads-size 32 (decimal size) size (decimal-part 32 size h (omega arith)) .0
+
+-- the first n octets of a number, a slash and a size
+abbrev text : ℕ → ℕ → ℕ → List ℕ
+text n c size = separated 46 (map decimal (take n (digitsOf 256 4 c))) ++ 47 ∷ decimal size
+
+text-of : (v size n : ℕ) → 1 ≤ n → sizeBytes size ≡ n → networkText v size ≡ text n (cleared 32 size v) size
+unfolding networkText
+text-of v size n any e = ap (λ (m : ℕ). text m (cleared 32 size v) size) (let k : max 1 (sizeBytes size) ≡ n = omega arith in k)
+
+pub text-written : (v size : ℕ) → v < 2 ^ 32 → size ≤ 32 → WrittenForm v size (networkText v size)
+text-written v size small h = elim (decLe size 0) [
+  | yes z ↦
+      let none-else : size ≡ 0 = omega arith in
+      rw none-else (subst (WrittenForm v 0) (sym (size-zero v small)) size-0)
+  | no z ↦
+      let c = cleared 32 size v in
+      let n = sizeBytes size in
+      let parts = subst (λ os. decimal-parts (separated 46 (map decimal (take n os))) (take n os)) (sym (octets-4 c)) (octets-parts n c (omega arith) (omega arith)) in
+      let up : rounded-up size n = eighths {size = size} {n = n} (omega arith) (omega arith) in
+      let w = first-bytes (clears (kept-bits 32 size v) (cleared-bits 32 size v)) up parts (size-is size h) in
+      subst (WrittenForm v size) (ap (λ os. separated 46 (map decimal (take n os)) ++ 47 ∷ decimal size) (octets-4 c) ∙ sym (text-of v size n (omega arith) refl)) w
+]
+
+parts-any : {t bs : List ℕ} → decimal-parts t bs → 1 ≤ length bs
+parts-any (a·b·c·d g h i j) = omega arith
+parts-any (a·b·c g h i) = omega arith
+parts-any (a·b g h) = omega arith
+parts-any (only-a g) = omega arith
+
+-- some octets are more than none
+any-octet : (n : ℕ) (os : List ℕ) → 1 ≤ length (take n os) → 1 ≤ n
+any-octet zero os h = absurd (omega arith)
+any-octet (suc n) os h = omega arith
+
+pub written-text : {v size : ℕ} {t : List ℕ} → v < 2 ^ 32 → WrittenForm v size t → networkText v size ≡ t
+written-text small (first-bytes {v} {c} {size} {n} {t} {u} cl (eighths h k) p s) =
+    text-of v size n (any-octet n (octets (V4 c)) (parts-any p)) (omega arith)
+    ∙ ap (λ (w : ℕ). text n w size) (sym (cleared-is cl))
+    ∙ ap₂ (λ a b. a ++ 47 ∷ b) (ap (λ os. separated 46 (map decimal (take n os))) (sym (octets-4 c)) ∙ parts-spelling-4 p) (size-spelling s)
+written-text small (size-0 {v}) = size-zero v small
+
+-- ---- the call
+
+module _ (a : Address) (size : ℕ) (old : List ℕ) where
+  -- as the writer answers and leaves the buffer
+  abbrev Does : Answer ℕ → List ℕ → Type 0
+  Does r new = (writeAnswer (writeReasons a size) (networkText (number a) size) old ≡ r) × (writeLeaves (writeReasons a size) (networkText (number a) size) old ≡ new)
+
+both : {A B : Type 0} {a b : A} {x y : B} → (a ≡ b) × (x ≡ y) → (b ≡ a) × (y ≡ x)
+both p = (sym (p .0), sym (p .1))
+
+module _ (size : ℕ) (old : List ℕ) where
+  ipv4-does : (v : ℕ) → v < 2 ^ 32 → {r : Answer ℕ} {new : List ℕ} → WritingCall (V4 v) size old r new → Does (V4 v) size old r new
+  ipv4-does v small (wrong-family e) = absurd (omega arith)
+  ipv4-does v small (size-above e l) = both (write-large size (networkText v size) old v l)
+  ipv4-does v small (text-above {t} e l w m) =
+      let is = written-text small w in
+      both (write-sized size (networkText v size) old v l (write-short (networkText v size) old (length t) (ap length is) m))
+  ipv4-does v small (writes {t} e l w m) =
+      let is = written-text small w in
+      both (write-sized size (networkText v size) old v l (write-fits (networkText v size) old (length t) (ap length is) m (t ++ drop (length t) old) (ap (λ s. s ++ drop (length t) old) (sym is))))
+
+pub call-does : (a : Address) → IsAddress a → (size : ℕ) (old : List ℕ) → {r : Answer ℕ} {new : List ℕ} → WritingCall a size old r new → Does a size old r new
+call-does (V4 v) small size old c = ipv4-does size old v small c
+call-does (V6 hi lo) is size old c = go c
+  where
+    go : {r : Answer ℕ} {new : List ℕ} → WritingCall (V6 hi lo) size old r new → Does (V6 hi lo) size old r new
+    go (wrong-family e) = both (write-6 size (networkText (number (V6 hi lo)) size) old hi lo)
+    go (size-above e l) = absurd (omega arith)
+    go (text-above e l w m) = absurd (omega arith)
+    go (writes e l w m) = absurd (omega arith)
+
+pub does-call : (a : Address) → IsAddress a → (size : ℕ) (old : List ℕ)
+    → WritingCall a size old (writeAnswer (writeReasons a size) (networkText (number a) size) old) (writeLeaves (writeReasons a size) (networkText (number a) size) old)
+does-call a is size old = go a is
+  where
+    of : (a : Address) → IsAddress a → {r : Answer ℕ} {new : List ℕ} → WritingCall a size old r new
+        → WritingCall a size old (writeAnswer (writeReasons a size) (networkText (number a) size) old) (writeLeaves (writeReasons a size) (networkText (number a) size) old)
+    of a is c = let d = call-does a is size old c in subst₂ (WritingCall a size old) (sym (d .0)) (sym (d .1)) c
+
+    go : (a : Address) → IsAddress a → WritingCall a size old (writeAnswer (writeReasons a size) (networkText (number a) size) old) (writeLeaves (writeReasons a size) (networkText (number a) size) old)
+    go (V4 v) small = elim (decLe size 32) [
+      | yes l ↦
+          let w = text-written v size small l in
+          elim (decLe (length (networkText v size)) (length old)) [
+            | yes m ↦ of (V4 v) small (writes refl l w m)
+            | no m ↦ of (V4 v) small (text-above refl l w (omega arith))
+          ]
+      | no l ↦ of (V4 v) small (size-above refl (omega arith))
+    ]
+    go (V6 hi lo) is = of (V6 hi lo) is (wrong-family refl)
