@@ -27,6 +27,7 @@ use Rattle.zero_runs.specs.Runs.{ZeroRun, LeftmostLongest, longestRun, firstRun
 use Rattle.normal.specs.Normal.{groupsText, shortened, normalGroups, normalText}
 use Rattle.normal.proofs.BoundLaws.{text-4-most, text-6-most}
 use Rattle.normal.proofs.ReadBackLaws.{groups-read, shortened-read, text-read, text-answer, text-6-lacks}
+use Rattle.normal.proofs.LowerLaws.{text-lower}
 use Rattle.zero_runs.proofs.RunLaws as runs
 
 -- ---- lengths
@@ -83,6 +84,10 @@ module _ (gs : List ℕ) (start n : ℕ) (r : LeftmostLongest gs start n) where
 -- There is one such run.
 pub run-only : (gs : List ℕ) (s n : ℕ) → LeftmostLongest gs s n → (n ≡ longestRun gs) × (s ≡ firstRun (longestRun gs) gs)
 run-only gs s n r = runs.run-only r
+
+-- "lower case": written in lower case a normal text is what it was.
+pub lower-case : (a : Address) → map lower (normalText a) ≡ normalText a
+lower-case = text-lower
 
 -- "Hex groups are always written, never the dotted tail."
 pub never-dotted : (hi lo : ℕ) → contains 46 (normalText (V6 hi lo)) ≡ false
