@@ -25,5 +25,7 @@ pub data BlockCall (t : List ℕ) : Answer Block → Type 0 where
   -- 4: "a length or bit count is above 32 (IPv4) or 128 (IPv6)"
   length-above : {a : Address} {n : ℕ} → BlockForm t a n → width a < n → BlockCall t (refuses noBlock LengthTooLarge)
   -- 5: "a block's address has a one bit beyond its length"
-  bits-beyond : {a : Address} {n : ℕ} → BlockForm t a n → n ≤ width a → (number a % 2 ^ (width a - n) ≡ 0 → ⊥) → BlockCall t (refuses noBlock BitsBeyondLength)
-  block : {a : Address} {n : ℕ} → BlockForm t a n → n ≤ width a → number a % 2 ^ (width a - n) ≡ 0 → BlockCall t (gives (record { address = a; length = n }))
+  bits-beyond : {a : Address} {n : ℕ} → BlockForm t a n → n ≤ width a → (number a % 2 ^ (width a - n) ≡ 0 → ⊥)
+      → BlockCall t (refuses noBlock BitsBeyondLength)
+  block : {a : Address} {n : ℕ} → BlockForm t a n → n ≤ width a → number a % 2 ^ (width a - n) ≡ 0
+      → BlockCall t (gives (record { address = a; length = n }))

@@ -60,7 +60,8 @@ pub data from-first-byte : ℕ → ℕ → Type 0 where
 
 -- "If that inferred size is 8 or more and less than 8 times the bytes given, it becomes 8 times the bytes given."
 pub data inferred-size : List ℕ → ℕ → Type 0 where
-  becomes : {b size : ℕ} {bs : List ℕ} → from-first-byte b size → 8 ≤ size → size < 8 * length (b ∷ bs) → inferred-size (b ∷ bs) (8 * length (b ∷ bs))
+  becomes : {b size : ℕ} {bs : List ℕ} → from-first-byte b size → 8 ≤ size → size < 8 * length (b ∷ bs)
+      → inferred-size (b ∷ bs) (8 * length (b ∷ bs))
   -- not 8 or more: "the inferred size 4 is never widened"
   below-8 : {b size : ℕ} {bs : List ℕ} → from-first-byte b size → size < 8 → inferred-size (b ∷ bs) size
   -- not less
@@ -82,7 +83,8 @@ pub data bytes-written : ℕ → List ℕ → List ℕ → Type 0 where
 -- a text means a size and the bytes written
 pub data NetworkForm : List ℕ → ℕ → List ℕ → Type 0 where
   -- "then, if wished, a slash and a size": "The size is the one written."
-  with-size : {t u bs ws : List ℕ} {size : ℕ} → bytes-given t bs → size-part u size → bytes-written size bs ws → NetworkForm (t ++ slash ∷ u) size ws
+  with-size : {t u bs ws : List ℕ} {size : ℕ} → bytes-given t bs → size-part u size → bytes-written size bs ws
+      → NetworkForm (t ++ slash ∷ u) size ws
   -- "Otherwise"
   without : {t bs ws : List ℕ} {size : ℕ} → bytes-given t bs → inferred-size bs size → bytes-written size bs ws → NetworkForm t size ws
 
@@ -124,6 +126,7 @@ pub data WritingCall (a : Address) (size : ℕ) (old : List ℕ) : Answer ℕ �
   -- 4: "a length or bit count is above 32"
   size-above : family a ≡ 4 → 32 < size → WritingCall a size old (refuses 0 LengthTooLarge) old
   -- 3
-  text-above : {t : List ℕ} → family a ≡ 4 → size ≤ 32 → WrittenForm (number a) size t → length old < length t → WritingCall a size old (refuses 0 NoRoom) old
+  text-above : {t : List ℕ} → family a ≡ 4 → size ≤ 32 → WrittenForm (number a) size t → length old < length t
+      → WritingCall a size old (refuses 0 NoRoom) old
   writes : {t : List ℕ} → family a ≡ 4 → size ≤ 32 → WrittenForm (number a) size t → length t ≤ length old
       → WritingCall a size old (gives (length t)) (t ++ drop (length t) old)

@@ -70,7 +70,7 @@ pub data up-to : ℕ → List ℕ → List ℕ → Type 0 where
   left-out : {n : ℕ} → up-to n [] []
   there : {n k : ℕ} {t u : List ℕ} {xs : List ℕ} {x : ℕ} → k ≤ n → n-h16: k t xs → h16 u x → up-to n (t ++ u) (xs ++ x ∷ [])
 
--- what stands on the two sides of "::", with as many zero groups between them as make eight
+-- what stands on the two sides of "::", with as many zero groups between them as make eight (RFC 4291 section 2.2)
 abbrev pub with-zeros : List ℕ → List ℕ → List ℕ
 with-zeros ws xs = ws ++ (replicate (8 - (length ws + length xs)) 0 ++ xs)
 
@@ -82,13 +82,17 @@ pub data IPv6address : List ℕ → List ℕ → Type 0 where
   -- /                       "::" 5( h16 ":" ) ls32
   alternative-2 : {t u xs ys : List ℕ} → n-h16: 5 t xs → ls32 u ys → IPv6address (colon ∷ colon ∷ (t ++ u)) (with-zeros [] (xs ++ ys))
   -- / [               h16 ] "::" 4( h16 ":" ) ls32
-  alternative-3 : {s t u ws xs ys : List ℕ} → up-to 0 s ws → n-h16: 4 t xs → ls32 u ys → IPv6address (s ++ colon ∷ colon ∷ (t ++ u)) (with-zeros ws (xs ++ ys))
+  alternative-3 : {s t u ws xs ys : List ℕ} → up-to 0 s ws → n-h16: 4 t xs → ls32 u ys
+      → IPv6address (s ++ colon ∷ colon ∷ (t ++ u)) (with-zeros ws (xs ++ ys))
   -- / [ *1( h16 ":" ) h16 ] "::" 3( h16 ":" ) ls32
-  alternative-4 : {s t u ws xs ys : List ℕ} → up-to 1 s ws → n-h16: 3 t xs → ls32 u ys → IPv6address (s ++ colon ∷ colon ∷ (t ++ u)) (with-zeros ws (xs ++ ys))
+  alternative-4 : {s t u ws xs ys : List ℕ} → up-to 1 s ws → n-h16: 3 t xs → ls32 u ys
+      → IPv6address (s ++ colon ∷ colon ∷ (t ++ u)) (with-zeros ws (xs ++ ys))
   -- / [ *2( h16 ":" ) h16 ] "::" 2( h16 ":" ) ls32
-  alternative-5 : {s t u ws xs ys : List ℕ} → up-to 2 s ws → n-h16: 2 t xs → ls32 u ys → IPv6address (s ++ colon ∷ colon ∷ (t ++ u)) (with-zeros ws (xs ++ ys))
+  alternative-5 : {s t u ws xs ys : List ℕ} → up-to 2 s ws → n-h16: 2 t xs → ls32 u ys
+      → IPv6address (s ++ colon ∷ colon ∷ (t ++ u)) (with-zeros ws (xs ++ ys))
   -- / [ *3( h16 ":" ) h16 ] "::"    h16 ":"   ls32
-  alternative-6 : {s t u ws xs ys : List ℕ} → up-to 3 s ws → n-h16: 1 t xs → ls32 u ys → IPv6address (s ++ colon ∷ colon ∷ (t ++ u)) (with-zeros ws (xs ++ ys))
+  alternative-6 : {s t u ws xs ys : List ℕ} → up-to 3 s ws → n-h16: 1 t xs → ls32 u ys
+      → IPv6address (s ++ colon ∷ colon ∷ (t ++ u)) (with-zeros ws (xs ++ ys))
   -- / [ *4( h16 ":" ) h16 ] "::"              ls32
   alternative-7 : {s u ws ys : List ℕ} → up-to 4 s ws → ls32 u ys → IPv6address (s ++ colon ∷ colon ∷ u) (with-zeros ws ys)
   -- / [ *5( h16 ":" ) h16 ] "::"              h16
