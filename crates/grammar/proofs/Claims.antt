@@ -82,23 +82,23 @@ module _ (t : List ℕ) (a : Address) where
       back (inl h) = strict-laws.form-reads (either-4 h)
       back (inr h) = strict-laws.form-reads (either-6 h)
 
-module _ (family : ℕ) (t : List ℕ) where
+module _ (asked : ℕ) (t : List ℕ) where
   -- The whole answer of the call, refused calls too, whatever the family number.
-  pub strict-answers : (r : Answer Address) → (strictAnswer family t ≡ r) ↔ StrictCall family t r
+  pub strict-answers : (r : Answer Address) → (strictAnswer asked t ≡ r) ↔ StrictCall asked t r
   unfolding strictAnswer readAnswer
-  strict-answers = answers-exactly (StrictCall family t) noAddress _ _ (strict-laws.answers-call family t) (λ r c. strict-laws.call-answers family t c)
+  strict-answers = answers-exactly (StrictCall asked t) noAddress _ _ (strict-laws.answers-call asked t) (λ r c. strict-laws.call-answers asked t c)
 
   -- Each refusal is given exactly when its sentence says so: see the constructor with that refusal.
-  pub strict-refuses : (e : Refusal) → (strictAnswer family t .number ≡ refusalNumber e) ↔ StrictCall family t (refuses noAddress e)
+  pub strict-refuses : (e : Refusal) → (strictAnswer asked t .number ≡ refusalNumber e) ↔ StrictCall asked t (refuses noAddress e)
   unfolding strictAnswer readAnswer
-  strict-refuses = refuses-exactly (StrictCall family t) noAddress _ _ (strict-laws.answers-call family t) (λ r c. strict-laws.call-answers family t c)
+  strict-refuses = refuses-exactly (StrictCall asked t) noAddress _ _ (strict-laws.answers-call asked t) (λ r c. strict-laws.call-answers asked t c)
 
   -- An address is given exactly if the grammar has the text, and it means that address.
-  pub strict-accepts : (a : Address) → (strictAnswer family t ≡ gives a) ↔ StrictForm family t a
-  strict-accepts a = (strict-laws.gives-form family t a (strict-laws.answers-call family t), λ h. strict-laws.call-answers family t (strict h))
+  pub strict-accepts : (a : Address) → (strictAnswer asked t ≡ gives a) ↔ StrictForm asked t a
+  strict-accepts a = (strict-laws.gives-form asked t a (strict-laws.answers-call asked t), λ h. strict-laws.call-answers asked t (strict h))
 
   -- So does whatever answers as `read_address` promises to.
-  pub strict-reader : (r : Reading) → readingAnswer r ≡ strictAnswer family t → (a : Address) → (r ≡ Read a) ↔ StrictForm family t a
+  pub strict-reader : (r : Reading) → readingAnswer r ≡ strictAnswer asked t → (a : Address) → (r ≡ Read a) ↔ StrictForm asked t a
   strict-reader r promise a =
       (λ e. strict-accepts a .0 (sym promise ∙ ap readingAnswer e), λ h. one-reading r (Read a) (promise ∙ strict-accepts a .1 h))
 
