@@ -8,7 +8,7 @@ use native.Mathlib.Decide.{decLe, ℕ-discrete}
 use native.Mathlib.Omega.{arith}
 use borrow.Author.Tests.{eqb-true, eq-eqb, ne-eqb}
 use lib.Arith.{digits-lt}
-use lib.ListN.{length, getD}
+use lib.ListN.{length, take, drop, getD}
 use lib.Pow.{high, low}
 use Rattle.cover.specs.Blocks.{IsBlock}
 use Rattle.address.specs.declared.Address.{Address}
@@ -19,13 +19,14 @@ use Rattle.address.specs.declared.Refusal.the-variants.{TextTooLong, Mal
 use Rattle.address.specs.declared.Reading.{Reading}
 use Rattle.address.specs.declared.Writing.{Writing}
 use Rattle.address.specs.declared.BlockReading.{BlockReading}
-use Rattle.address.specs.Answers.{Answer, refusalNumber, precedence, holds, firstOf, refusal, gives, refuses, noAddress, noBlock, readingAnswer, writingAnswer, blockAnswer}
+use Rattle.address.specs.Answers.{Answer, refusalNumber, precedence, holds, firstOf, refusal, gives, refuses, noAddress, noBlock, readingAnswer, writingAnswer, blockAnswer, writeAnswer, writeLeaves}
 use Rattle.address.specs.Addresses.{IsAddress, width, number, sameAddress}
-use Rattle.address.specs.Blocks.{numbered, blockRefusal}
+use Rattle.address.specs.Blocks.{numbered, blockReasons, blockRefusal}
 use Rattle.address.specs.declared.Reading.the-variants as reading
 use Rattle.address.specs.declared.Writing.the-variants as writing
 use Rattle.address.specs.declared.BlockReading.the-variants as block
 use Rattle.address.proofs.AnswerLaws.{number-pos}
+use Rattle.address.proofs.AnswerLaws as laws
 use Rattle.address.proofs.BlockLaws.{refusal-length, refusal-bits, refusal-none}
 
 -- ---- refusals
@@ -80,6 +81,33 @@ refusal-first reasons = go precedence
         pick : (t : Bool) → (j : ℕ) × (j ≤ i) × (firstOf ns reasons ≡ getD ns j 0) → (j : ℕ) × (j ≤ suc i) × (cond t n (firstOf ns reasons) ≡ getD (n ∷ ns) j 0)
         pick true ih = (0, omega arith, refl)
         pick false (j, k, e) = (suc j, omega arith, e)
+
+-- ---- lent buffers
+
+module _ (reasons : List (ℕ × Bool)) (bytes old : List ℕ) where
+  -- "A good answer changes only the first bytes it counts; later bytes stay." The bytes that it counts are those to be written, all of them.
+  pub written-held : (n : ℕ) → writeAnswer reasons bytes old ≡ gives n
+      → (take n (writeLeaves reasons bytes old) ≡ bytes) × (n ≡ length bytes) × (n ≤ length old) × (drop n (writeLeaves reasons bytes old) ≡ drop n old)
+  written-held = laws.written-held reasons bytes old
+
+  -- "A refusal returns its number with every other field zero, and no byte of a lent buffer differs from before."
+  pub write-refused : ¬ (writeAnswer reasons bytes old .number ≡ 0) → (writeAnswer reasons bytes old .fields ≡ 0) × (writeLeaves reasons bytes old ≡ old)
+  write-refused = laws.write-refused reasons bytes old
+
+  -- Whatever the answer, the buffer is as long as before.
+  pub length-stays : length (writeLeaves reasons bytes old) ≡ length old
+  length-stays = laws.write-length reasons bytes old
+
+  -- Of a call whose own reasons are others than 3:
+  module _ (others : holds 3 reasons ≡ false) where
+    -- "refusal 3 exactly if the room is less", 3 being the last in the order
+    pub room-exactly : (writeAnswer reasons bytes old .number ≡ 3) ↔ ((refusal reasons ≡ 0) × (length old < length bytes))
+    unfolding writeAnswer
+    room-exactly = laws.refusal-3 reasons bytes old others
+
+    -- and it is good exactly if no reason holds and the bytes fit
+    pub good-exactly : (writeAnswer reasons bytes old ≡ gives (length bytes)) ↔ ((refusal reasons ≡ 0) × (length bytes ≤ length old))
+    good-exactly = (λ e. (laws.good-no-reason reasons bytes old others (length bytes) e, written-held (length bytes) e .2), λ p. laws.write-good reasons bytes old (p .0) (p .1))
 
 -- ---- a promise about the paper's answer fixes the code's answer
 
@@ -169,3 +197,24 @@ valid-means b h = (to, from)
 
     from : IsBlock W (numbered b) → blockRefusal b ≡ 0
     from B = refusal-none b (B .short) (eq-eqb rest 0 (B .aligned))
+
+-- A call that writes a block value by its reasons is good only for a block.
+pub written-valid : (b : Block) → IsAddress (b .address) → (bytes old : List ℕ) (n : ℕ) → writeAnswer (blockReasons b) bytes old ≡ gives n → IsBlock (width (b .address)) (numbered b)
+unfolding blockRefusal
+written-valid b h bytes old n e = valid-means b h .0 (laws.good-no-reason (blockReasons b) bytes old refl n e)
+
+-- It is good exactly if the block value is a block and the bytes fit, and refusal 3 exactly if it is a block and the room is less.
+module _ (b : Block) (h : IsAddress (b .address)) (bytes old : List ℕ) where
+  pub block-good-exactly : (writeAnswer (blockReasons b) bytes old ≡ gives (length bytes)) ↔ (IsBlock (width (b .address)) (numbered b) × (length bytes ≤ length old))
+  unfolding blockRefusal
+  block-good-exactly =
+      let good = good-exactly (blockReasons b) bytes old refl in
+      let valid = valid-means b h in
+      (λ e. let g = good .0 e in (valid .0 (g .0), g .1), λ p. good .1 (valid .1 (p .0), p .1))
+
+  pub block-room-exactly : (writeAnswer (blockReasons b) bytes old .number ≡ 3) ↔ (IsBlock (width (b .address)) (numbered b) × (length old < length bytes))
+  unfolding blockRefusal
+  block-room-exactly =
+      let room = room-exactly (blockReasons b) bytes old refl in
+      let valid = valid-means b h in
+      (λ e. let r = room .0 e in (valid .0 (r .0), r .1), λ p. room .1 (valid .1 (p .0), p .1))

@@ -88,7 +88,7 @@ module _ (v size : ℕ) where
   written = record { size = size; bytes = take (max 1 (sizeBytes size)) (digitsOf 256 4 (cleared 32 size v)) }
 
   module _ (h : size ≤ 32) where
-    written-length : length (written .bytes) ≡ max 1 (sizeBytes size)
+    pub written-length : length (written .bytes) ≡ max 1 (sizeBytes size)
     written-length = length-take-le (max 1 (sizeBytes size)) (digitsOf 256 4 (cleared 32 size v)) (omega (arith, digits-length 256 4 (cleared 32 size v)))
 
     pub written-read : networkOf (networkText v size) ≡ some written

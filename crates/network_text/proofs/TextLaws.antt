@@ -1,19 +1,22 @@
 -- The text of a network as the code puts it, its length, and what writing it answers. Assumes nothing.
 use mathlib.Core.Path.{_≡_, refl, sym, ap, _∙_}
+use mathlib.Core.Logic.{_↔_}
 use mathlib.Core.Bool.{Bool, true, false, cond}
 use mathlib.Core.List.{List, [], _∷_, _++_, map, append-assoc}
 use Prim.Native.Nat.{ℕ, _+_, _-_, _*_, _/_, _%_, _^_, _≤_, _<_, max}
 use native.Mathlib.Decide.{decLe}
 use native.Mathlib.Omega.{arith}
-use borrow.Author.Tests.{lt-ltb, le-ltb, lt-leb}
+use borrow.Author.Tests.{lt-ltb, le-ltb, lt-leb, ltb-false}
 use lib.Dec.{leb, ltb, lit≤, lit<}
 use lib.ListN.{length, take, length-append}
 use lib.Pow.{split}
 use lib.Seq.{length-take-le}
 use Rattle.wide.proofs.Halves.{one-shifted}
+use Rattle.address.specs.declared.Address.{Address}
 use Rattle.address.specs.declared.Address.the-variants.{V4, V6}
 use Rattle.address.specs.declared.Refusal.the-variants.{LengthTooLarge, WrongFamily}
-use Rattle.address.specs.Answers.{Answer, refuses, writeAnswer, writeLeaves}
+use Rattle.address.specs.Addresses.{family}
+use Rattle.address.specs.Answers.{Answer, refusal, refuses, writeAnswer, writeLeaves}
 use Rattle.octets.specs.BigEndian.{digitsOf}
 use Rattle.octets.proofs.DigitLaws.{four-digits, digits-length}
 use Rattle.digits.specs.Numerals.{decimal}
@@ -126,3 +129,14 @@ module _ (size : ℕ) (bytes old : List ℕ) where
         → (r ≡ writeAnswer (writeReasons (V4 v) size) bytes old) × (new ≡ writeLeaves (writeReasons (V4 v) size) bytes old)
     unfolding writeAnswer writeLeaves
     write-sized h w = (rw (le-ltb 32 size h) (w .0), rw (le-ltb 32 size h) (w .1))
+
+-- where neither holds of an IPv4 address
+none-0 : (p : Bool) → cond {A = ℕ} p 4 0 ≡ 0 → p ≡ false
+none-0 true e = absurd (omega arith)
+none-0 false e = refl
+
+-- nothing but the room is against an IPv4 address and a size up to 32, and against no other
+pub no-reason : (a : Address) (size : ℕ) → (refusal (writeReasons a size) ≡ 0) ↔ ((family a ≡ 4) × (size ≤ 32))
+unfolding refusal
+no-reason (V4 v) size = (λ e. (refl, ltb-false 32 size (none-0 (ltb 32 size) e)), λ p. rw (le-ltb 32 size (p .1)))
+no-reason (V6 hi lo) size = (λ e. absurd (omega arith), λ p. absurd (omega arith))

@@ -1,17 +1,20 @@
 -- What is claimed of strict text and normal text together (01, "Strict text" and "Normal text"). Assumes nothing.
 use mathlib.Core.Path.{_≡_, refl}
+use mathlib.Core.Logic.{_↔_}
 use mathlib.Core.Bool.{true, false}
-use mathlib.Core.List.{List, _∷_, _++_, map}
+use mathlib.Core.List.{List, [], _∷_, _++_, map}
 use mathlib.Core.Option.{Option, some, none}
 use Prim.Native.Nat.{ℕ, _+_, _-_, _≤_, _<_}
 use native.Mathlib.Omega.{arith}
 use borrow.Author.Tests.{lt-ltb, le-ltb}
 use lib.Dec.{eqb}
-use lib.ListN.{length, replicate}
+use lib.ListN.{length, take, replicate}
 use Rattle.address.specs.declared.Address.{Address}
 use Rattle.address.specs.declared.Address.the-variants.{V4, V6}
 use Rattle.address.specs.Addresses.{IsAddress, family}
-use Rattle.address.specs.Answers.{gives}
+use Rattle.address.specs.Answers.{refusal, gives, writeAnswer, writeLeaves}
+use Rattle.address.proofs.Claims as address
+use Rattle.address.proofs.AnswerLaws.{read-held}
 use Rattle.octets.specs.BigEndian.{AllBelow}
 use Rattle.digits.specs.Numerals.{digitOf, groupOf, lower}
 use Rattle.digits.specs.Pieces.{contains, separated}
@@ -39,6 +42,18 @@ at-most-15 = text-4-most
 pub at-most-39 : (hi lo : ℕ) → length (normalText (V6 hi lo)) ≤ 39
 at-most-39 = text-6-most
 
+-- ---- writing
+
+-- "The answer is the number of bytes written; refusal 3 exactly if the room is less."
+module _ (a : Address) (old : List ℕ) where
+  pub good-exactly : (writeAnswer [] (normalText a) old ≡ gives (length (normalText a))) ↔ (length (normalText a) ≤ length old)
+  unfolding refusal
+  good-exactly = let good = address.good-exactly [] (normalText a) old refl in (λ e. good .0 e .1, λ h. good .1 (refl, h))
+
+  pub room-exactly : (writeAnswer [] (normalText a) old .number ≡ 3) ↔ (length old < length (normalText a))
+  unfolding refusal
+  room-exactly = let room = address.room-exactly [] (normalText a) old refl in (λ e. room .0 e .1, λ h. room .1 (refl, h))
+
 -- ---- reading what was written
 
 -- Demand 2: reading the normal text of an address returns that address, asked for by its family or by 0.
@@ -47,6 +62,13 @@ read-back = text-read
 
 pub read-back-answer : (a : Address) → IsAddress a → (strictAnswer 0 (normalText a) ≡ gives a) × (strictAnswer (family a) (normalText a) ≡ gives a)
 read-back-answer = text-answer
+
+-- Demand 2, of what the caller holds: the bytes that the buffer holds after a good call, as many as it says, are read as the address.
+pub written-read-back : (a : Address) → IsAddress a → (old : List ℕ) (n : ℕ) → writeAnswer [] (normalText a) old ≡ gives n
+    → let text = take n (writeLeaves [] (normalText a) old) in (strictAnswer 0 text ≡ gives a) × (strictAnswer (family a) text ≡ gives a)
+written-read-back a h old n e =
+    let back = read-back-answer a h in
+    (read-held [] (normalText a) old (strictAnswer 0) (back .0) n e, read-held [] (normalText a) old (strictAnswer (family a)) (back .1) n e)
 
 -- Any spelling of eight groups, in either case and with leading zeros up to four digits, is read as the groups; and so is one with
 -- `::` for the zeros between those on its two sides.

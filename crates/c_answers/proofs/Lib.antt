@@ -1,0 +1,2 @@
+-- Claims: each answer is fixed by the paper's.
+pub mod Claims
