@@ -1,30 +1,33 @@
 -- What is claimed of answers, addresses and blocks. Assumes nothing.
 use mathlib.Core.Path.{_≡_, refl, sym, ap, ap₂, _∙_}
-use mathlib.Core.Logic.{_↔_}
-use mathlib.Core.Bool.{Bool, true, false, cond, false≢true}
+use mathlib.Core.Logic.{_⊎_, inl, inr, _↔_}
+use mathlib.Core.Bool.{Bool, true, false, cond, and-eq-true-iff, false≢true}
 use mathlib.Core.List.{List, [], _∷_}
 use Prim.Native.Nat.{ℕ, zero, suc, _+_, _-_, _*_, _/_, _%_, _^_, _≤_, _<_}
-use native.Mathlib.Decide.{decLe, ℕ-discrete}
+use native.Mathlib.Decide.{decLe, decLt, ℕ-discrete}
 use native.Mathlib.Omega.{arith}
 use borrow.Author.Tests.{eqb-true, eq-eqb, ne-eqb}
 use lib.Arith.{digits-lt}
+use lib.Dec.{eqb}
 use lib.ListN.{length, take, drop, getD}
 use lib.Pow.{high, low}
 use Rattle.cover.specs.Blocks.{IsBlock}
 use Rattle.address.specs.declared.Address.{Address}
 use Rattle.address.specs.declared.Address.the-variants.{V4, V6}
 use Rattle.address.specs.declared.Block.{Block}
+use Rattle.address.specs.declared.Order.the-variants.{Below, Same, Above, TwoFamilies}
 use Rattle.address.specs.declared.Refusal.{Refusal}
 use Rattle.address.specs.declared.Refusal.the-variants.{TextTooLong, Malformed, NoRoom, LengthTooLarge, BitsBeyondLength, NoClass, HostTooLarge, FirstAboveLast, WrongFamily}
 use Rattle.address.specs.declared.Reading.{Reading}
 use Rattle.address.specs.declared.Writing.{Writing}
 use Rattle.address.specs.declared.BlockReading.{BlockReading}
 use Rattle.address.specs.Answers.{Answer, refusalNumber, precedence, holds, firstOf, refusal, gives, refuses, noAddress, noBlock, readingAnswer, writingAnswer, blockAnswer, writeAnswer, writeLeaves}
-use Rattle.address.specs.Addresses.{IsAddress, width, number, sameAddress}
-use Rattle.address.specs.Blocks.{numbered, blockReasons, blockRefusal}
+use Rattle.address.specs.Addresses.{IsAddress, family, width, number, addressOrder, sameAddress}
+use Rattle.address.specs.Blocks.{numbered, blockReasons, blockRefusal, sameBlock}
 use Rattle.address.specs.declared.Reading.the-variants as reading
 use Rattle.address.specs.declared.Writing.the-variants as writing
 use Rattle.address.specs.declared.BlockReading.the-variants as block
+use Rattle.address.proofs.AddressLaws.{order-exactly, width-follows}
 use Rattle.address.proofs.AnswerLaws.{number-pos}
 use Rattle.address.proofs.AnswerLaws as laws
 use Rattle.address.proofs.BlockLaws.{refusal-length, refusal-bits, refusal-none}
@@ -170,8 +173,80 @@ same-means (V6 hi lo) (V6 hi′ lo′) h k = (
   λ e. eq-eqb (hi * 2 ^ 64 + lo) (hi′ * 2 ^ 64 + lo′) (ap number e),
 )
 
+-- ---- order
+
+-- "Addresses of one family are ordered as numbers of 32 or 128 bits, the first byte highest": each of the three answers exactly if the numbers
+-- say so, and the fourth exactly for two families.
+module _ (a b : Address) where
+  pub below-means : (addressOrder a b ≡ Below) ↔ ((family a ≡ family b) × (number a < number b))
+  below-means = order-exactly a b Below
+
+  pub above-means : (addressOrder a b ≡ Above) ↔ ((family a ≡ family b) × (number b < number a))
+  above-means = order-exactly a b Above
+
+  pub apart-means : (addressOrder a b ≡ TwoFamilies) ↔ ¬ (family a ≡ family b)
+  apart-means = order-exactly a b TwoFamilies
+
+  -- The same are only equal addresses.
+  pub order-same-means : IsAddress a → IsAddress b → (addressOrder a b ≡ Same) ↔ (a ≡ b)
+  order-same-means h k = (
+    λ e. let s = order-exactly a b Same .0 e in same-means a b h k .0 (rw (eq-eqb (family a) (family b) (s .0), eq-eqb (number a) (number b) (s .1))),
+    λ e. order-exactly a b Same .1 (ap family e, ap number e),
+  )
+
+  -- The order of one family is total,
+  pub order-total : family a ≡ family b → (addressOrder a b ≡ Below) ⊎ (addressOrder a b ≡ Same) ⊎ (addressOrder a b ≡ Above)
+  order-total e = elim (decLt (number a) (number b)) [
+    | yes l ↦ inl (below-means .1 (e, l))
+    | no n ↦ elim (decLt (number b) (number a)) [
+      | yes l ↦ inr (inr (above-means .1 (e, l)))
+      | no m ↦ inr (inl (order-exactly a b Same .1 (e, omega (arith, n, m))))
+    ]
+  ]
+
+-- turns with its arguments,
+pub order-swapped : (a b : Address) → (addressOrder a b ≡ Below) ↔ (addressOrder b a ≡ Above)
+order-swapped a b = (
+  λ e. let s = below-means a b .0 e in above-means b a .1 (sym (s .0), s .1),
+  λ e. let s = above-means b a .0 e in below-means a b .1 (sym (s .0), s .1),
+)
+
+-- and is transitive.
+pub order-transitive : (a b c : Address) → addressOrder a b ≡ Below → addressOrder b c ≡ Below → addressOrder a c ≡ Below
+order-transitive a b c e f = let s = below-means a b .0 e in let t = below-means b c .0 f in below-means a c .1 (s .0 ∙ t .0, omega (arith, s .1, t .1))
+
+-- "An address is a value of one of two kinds, IPv4 or IPv6, and carries its kind": family 4 with 32 bits or family 6 with 128, and no third.
+pub two-kinds : (a : Address) → ((family a ≡ 4) × (width a ≡ 32)) ⊎ ((family a ≡ 6) × (width a ≡ 128))
+two-kinds (V4 v) = inl (refl, refl)
+two-kinds (V6 hi lo) = inr (refl, refl)
+
+pub one-width : (a b : Address) → (family a ≡ family b) ↔ (width a ≡ width b)
+one-width a b = (width-follows a b, back a b)
+  where
+    back : (a b : Address) → width a ≡ width b → family a ≡ family b
+    back (V4 v) (V4 w) e = refl
+    back (V4 v) (V6 hi lo) e = absurd (omega arith)
+    back (V6 hi lo) (V4 v) e = absurd (omega arith)
+    back (V6 hi lo) (V6 h l) e = refl
+
+-- Two block values are the same exactly if the comparison says so.
+pub same-block-means : (a b : Block) → IsAddress (a .address) → IsAddress (b .address) → (sameBlock a b ≡ true) ↔ (a ≡ b)
+same-block-means a b h k = (
+  λ e.
+      let both = and-eq-true-iff (sameAddress (a .address) (b .address)) (eqb (a .length) (b .length)) .0 e in
+      let p = same-means (a .address) (b .address) h k .0 (both .0) in
+      let q = eqb-true (a .length) (b .length) (both .1) in
+      λ i. record { address = p i; length = q i },
+  λ e.
+      and-eq-true-iff (sameAddress (a .address) (b .address)) (eqb (a .length) (b .length)) .1 (
+        same-means (a .address) (b .address) h k .1 (ap (λ x. x .address) e),
+        eq-eqb (a .length) (b .length) (ap (λ x. x .length) e),
+      ),
+)
+
 -- ---- blocks
 
+-- its number has no more bits than that
 pub address-below : (a : Address) → IsAddress a → number a < 2 ^ width a
 address-below (V4 v) h = h
 address-below (V6 hi lo) h = digits-lt (h .0) (h .1)

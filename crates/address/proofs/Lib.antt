@@ -1,4 +1,4 @@
--- AnswerLaws: what writers answer and leave. BufferLaws: what a second write leaves. AddressLaws: order told by tests. BlockLaws: a block's two rules.
+-- AnswerLaws: what writers answer and leave. BufferLaws: what a second write leaves. AddressLaws: order told by tests and by numbers. BlockLaws: a block's two rules.
 -- Claims: the theorems, gathered for a reader.
 pub mod AnswerLaws
 pub mod BufferLaws

@@ -1,6 +1,6 @@
 -- What is claimed of blocks and ranges (01, "Blocks and ranges"; demand 3), over the width W. Assumes nothing.
 use mathlib.Core.Path.{_≡_, refl}
-use mathlib.Core.Logic.{_⊎_}
+use mathlib.Core.Logic.{_⊎_, _↔_}
 use mathlib.Core.List.{List, [], _∷_}
 use Prim.Native.Nat.{ℕ, _+_, _-_, _*_, _^_, _≤_, _<_}
 use native.Mathlib.Omega.{arith}
@@ -13,6 +13,16 @@ use Rattle.cover.proofs.Range.{MayStart, largest-le, largest-may, large
 use Rattle.cover.proofs.RangeCount.{range-total, range-count, range-count-reached}
 use Rattle.cover.proofs.Interval as interval
 use Rattle.cover.proofs.Greedy as greedy
+
+-- The addresses whose first (length) bits are the block's own are those from its address on, as many as its size.
+pub covers-exactly : {W : ℕ} {b : Block} → IsBlock W b → (x : ℕ) → Covers W b x ↔ ((b .address ≤ x) × (x < b .address + 2 ^ (W - b .length)))
+covers-exactly B x = (λ c. let w = interval.covers→within B c in (w .low, w .high), λ h. interval.within→covers B (record { low = h .0; high = h .1 }))
+
+-- "A block may be as large as its starting address has trailing zero bits, and no larger": so large are all blocks, and all that are so large are blocks.
+pub block-exactly : (W : ℕ) (b : Block) → IsBlock W b ↔ ((b .address < 2 ^ W) × (b .length ≤ W) × (W - b .length ≤ trailingZeros W (b .address)))
+block-exactly W b =
+    let zeros = aligned-trailing W (b .address) (W - b .length) (omega arith) in
+    (λ B. (B .below, B .short, zeros .0 (B .aligned)), λ h. record { below = h .0; short = h .1; aligned = zeros .1 (h .2) })
 
 -- Of two blocks one covers all that the other covers, or no address is covered by both.
 pub nested-or-apart : {W : ℕ} {b c : Block} → IsBlock W b → IsBlock W c
