@@ -1,16 +1,18 @@
 -- What 01, "Classes", and demand 2 ask of splitting and joining. Assumes nothing.
+use mathlib.Core.Logic.{_⊎_, inl, inr, _↔_}
 use mathlib.Core.Path.{_≡_, refl, sym, ap, ap₂, subst, _∙_}
-use mathlib.Core.Option.{some}
+use mathlib.Core.Option.{some, none}
 use Prim.Native.Nat.{ℕ, _+_, _-_, _*_, _/_, _%_, _^_, _≤_, _<_}
-use native.Mathlib.Decide.{decLt}
+use native.Mathlib.Decide.{decLe, decLt}
 use native.Mathlib.Omega.{arith}
 use Rattle.address.specs.declared.Address.{Address}
 use Rattle.address.specs.declared.Address.the-variants.{V4, V6}
-use Rattle.address.specs.declared.Refusal.the-variants.{NoClass}
-use Rattle.address.specs.Addresses.{IsAddress}
-use Rattle.address.specs.Answers.{gives, refuses}
+use Rattle.address.specs.declared.Refusal.the-variants.{NoClass, HostTooLarge, WrongFamily}
+use Rattle.address.specs.Addresses.{IsAddress, family, number}
+use Rattle.address.specs.Answers.{Answer, gives, refuses, noAddress}
 use Rattle.classes.specs.Classes.{Class, classA, classB, classC, classOf, networkClass, hosts, splitAnswer, splittingAnswer, joinAnswer}
-use Rattle.classes.proofs.ClassLaws.{class-a, class-b, class-c, class-none, split-class, split-none}
+use Rattle.classes.specs.ClassTable.{SplitCall, class-A, class-B, class-C, bits-111, not-IPv4, Row, row-A, row-B, row-C, JoinCall, no-class, host-too-large, joined}
+use Rattle.classes.proofs.ClassLaws.{class-a, class-b, class-c, class-none, split-class, split-none, split-6, network-a, network-b, network-c, network-ab, network-bc, network-above, join-none}
 use Rattle.classes.proofs.JoinLaws as laws
 use Rattle.address.proofs.Claims.{Cases, given, not-given, one-answer}
 use Rattle.classes.specs.declared.Splitting.{Splitting}
@@ -31,21 +33,71 @@ split-of-join n h a e =
     let same : V4 (n * hosts (s .0) + h) ≡ a = ap (λ r. r .fields) (sym (laws.joins n h (s .0) (s .1) (s .2)) ∙ e) in
     subst (λ b. IsAddress b × (splitAnswer b ≡ gives (n, h))) same (laws.address-same n h (s .0) (s .1) (s .2) .1, laws.split-join n h (s .0) (s .1) (s .2))
 
--- "has a premise: the address does not begin with 111": all others split
-pub splits : (v : ℕ) → v < 2 ^ 32 → (v / 2 ^ 29 ≡ 7 → ⊥) → (c : Class) × (splitAnswer (V4 v) ≡ gives (v / hosts c, v % hosts c))
-splits v h d = elim (decLt v 2147483648) [
-  | yes a ↦ (classA, sym (split-class v classA (class-a v a)))
+-- ---- the table by its first bits
+
+split-answers : {a : Address} {r : Answer (ℕ × ℕ)} → SplitCall a r → splitAnswer a ≡ r
+split-answers (class-A {v} h) = sym (split-class v classA (class-a v (omega arith)))
+split-answers (class-B {v} h) = sym (split-class v classB (class-b v (omega arith) (omega arith)))
+split-answers (class-C {v} h) = sym (split-class v classC (class-c v (omega arith) (omega arith)))
+split-answers (bits-111 {v} h) = sym (split-none v (class-none v (omega arith)))
+split-answers (not-IPv4 {hi} {lo}) = sym (split-6 hi lo)
+
+-- every address has its row
+split-call : (a : Address) → IsAddress a → (r : Answer (ℕ × ℕ)) × SplitCall a r
+split-call (V4 v) h = elim (decLt v 2147483648) [
+  | yes a ↦ (gives (v / 2 ^ 24, v % 2 ^ 24), class-A {v = v} (omega arith))
   | no a ↦ elim (decLt v 3221225472) [
-    | yes b ↦ (classB, sym (split-class v classB (class-b v (omega arith) b)))
+    | yes b ↦ (gives (v / 2 ^ 16, v % 2 ^ 16), class-B {v = v} (omega arith))
     | no b ↦ elim (decLt v 3758096384) [
-      | yes c ↦ (classC, sym (split-class v classC (class-c v (omega arith) c)))
+      | yes c ↦ (gives (v / 2 ^ 8, v % 2 ^ 8), class-C {v = v} (omega arith))
+      | no c ↦ (refuses (0, 0) NoClass, bits-111 {v = v} (omega arith))
+    ]
+  ]
+]
+split-call (V6 hi lo) h = (refuses (0, 0) WrongFamily, not-IPv4)
+
+-- A call answers what the table says, and nothing else.
+pub split-exactly : (a : Address) → IsAddress a → (r : Answer (ℕ × ℕ)) → (splitAnswer a ≡ r) ↔ SplitCall a r
+split-exactly a h r = (λ e. let s = split-call a h in subst (SplitCall a) (sym (split-answers (s .1)) ∙ e) (s .1), split-answers)
+
+-- So there are three numbers. 0: "the address does not begin with 111", which is the premise of "join of split is the address".
+abbrev SplitNumbers : Address → ℕ → Type 0
+SplitNumbers a k =
+    ((k ≡ 0) ↔ ((family a ≡ 4) × (number a / 2 ^ 29 ≡ 7 → ⊥)))
+    × ((k ≡ 6) ↔ ((family a ≡ 4) × (number a / 2 ^ 29 ≡ 7)))
+    × ((k ≡ 9) ↔ (family a ≡ 6))
+    × ((k ≡ 0) ⊎ (k ≡ 6) ⊎ (k ≡ 9))
+
+pub split-number : (a : Address) → IsAddress a → SplitNumbers a (splitAnswer a .number)
+split-number a h = let s = split-call a h in subst (SplitNumbers a) (ap (λ r. r .number) (sym (split-answers (s .1)))) (go (s .1))
+  where
+    good : (v : ℕ) → (v / 2 ^ 29 ≡ 7 → ⊥) → SplitNumbers (V4 v) 0
+    good v n = ((λ e. (refl, n), λ k. refl), (λ e. absurd (omega arith), λ k. absurd (n (k .1))), (λ e. absurd (omega arith), λ k. absurd (omega arith)), inl refl)
+
+    go : {a : Address} {r : Answer (ℕ × ℕ)} → SplitCall a r → SplitNumbers a (r .number)
+    go (class-A {v} h) = good v λ k. omega arith
+    go (class-B {v} h) = good v λ k. omega arith
+    go (class-C {v} h) = good v λ k. omega arith
+    go (bits-111 h) = ((λ e. absurd (omega arith), λ k. absurd (k .1 h)), (λ e. (refl, h), λ k. refl), (λ e. absurd (omega arith), λ k. absurd (omega arith)), inr (inl refl))
+    go not-IPv4 = ((λ e. absurd (omega arith), λ k. absurd (omega (arith, k .0))), (λ e. absurd (omega arith), λ k. absurd (omega (arith, k .0))), (λ e. refl, λ k. refl), inr (inr refl))
+
+-- "has a premise: the address does not begin with 111": all others split, by the class whose first bits they begin with
+pub splits : (v : ℕ) → v < 2 ^ 32 → (v / 2 ^ 29 ≡ 7 → ⊥)
+    → (c : Class) × (classOf v ≡ some c) × (v / 2 ^ (32 - c .bits) ≡ c .first) × (splitAnswer (V4 v) ≡ gives (v / hosts c, v % hosts c))
+splits v h d = elim (decLt v 2147483648) [
+  | yes a ↦ let e = class-a v a in (classA, e, omega arith, sym (split-class v classA e))
+  | no a ↦ elim (decLt v 3221225472) [
+    | yes b ↦ let e = class-b v (omega arith) b in (classB, e, omega arith, sym (split-class v classB e))
+    | no b ↦ elim (decLt v 3758096384) [
+      | yes c ↦ let e = class-c v (omega arith) c in (classC, e, omega arith, sym (split-class v classC e))
       | no c ↦ absurd (d (omega arith))
     ]
   ]
 ]
 
-pub no-split : (v : ℕ) → v / 2 ^ 29 ≡ 7 → splitAnswer (V4 v) ≡ refuses (0, 0) NoClass
-no-split v h = sym (split-none v (class-none v (omega arith)))
+-- Refusal 6 of an IPv4 address exactly if it begins with 111.
+pub no-split : (v : ℕ) → v < 2 ^ 32 → (splitAnswer (V4 v) ≡ refuses (0, 0) NoClass) ↔ (v / 2 ^ 29 ≡ 7)
+no-split v h = (λ e. split-number (V4 v) h .1 .0 (ap (λ r. r .number) e) .1, λ e. split-answers (bits-111 e))
 
 -- ---- the class bits
 
@@ -63,6 +115,88 @@ Agrees c = (n : ℕ) → let low = 2 ^ (32 - c .bits) / hosts c in ((c .least �
 
 pub columns-agree : Agrees classA × Agrees classB × Agrees classC
 columns-agree = (λ n. (λ h. omega arith, λ h. (omega arith, omega arith)), λ n. (λ h. omega arith, λ h. (omega arith, omega arith)), λ n. (λ h. omega arith, λ h. (omega arith, omega arith)))
+
+-- ---- the table by its network numbers
+
+row-class : {n most : ℕ} → Row n most → (c : Class) × (networkClass n ≡ some c) × (c .hostMost ≡ most)
+row-class (row-A {n} h) = (classA, network-a n h, refl)
+row-class (row-B {n} l h) = (classB, network-b n l h, refl)
+row-class (row-C {n} l h) = (classC, network-c n l h, refl)
+
+-- a network number lies in one row at most
+one-row : {n l m : ℕ} → Row n l → Row n m → l ≡ m
+one-row r s = let c = row-class r in let d = row-class s in let same : c .0 ≡ d .0 = laws.some-same (sym (c .1) ∙ d .1) in sym (c .2) ∙ ap (λ x. x .hostMost) same ∙ d .2
+
+outside : {n m : ℕ} → Row n m → (n ≤ 127 → ⊥) → (32768 ≤ n → n ≤ 49151 → ⊥) → (12582912 ≤ n → n ≤ 14680063 → ⊥) → ⊥
+outside (row-A h) a b c = a h
+outside (row-B l h) a b c = b l h
+outside (row-C l h) a b c = c l h
+
+-- a network number has a row, or is of no class
+row : (n : ℕ) → ((most : ℕ) × Row n most) ⊎ ((networkClass n ≡ none) × ((most : ℕ) → Row n most → ⊥))
+row n = elim (decLe n 127) [
+  | yes a ↦ inl (16777215, row-A a)
+  | no a ↦ elim (decLt n 32768) [
+    | yes b ↦ inr (network-ab n (omega arith) b, λ m r. outside r (λ k. omega arith) (λ k l. omega arith) (λ k l. omega arith))
+    | no b ↦ elim (decLe n 49151) [
+      | yes c ↦ inl (65535, row-B {n = n} (omega arith) c)
+      | no c ↦ elim (decLt n 12582912) [
+        | yes d ↦ inr (network-bc n (omega arith) d, λ m r. outside r (λ k. omega arith) (λ k l. omega arith) (λ k l. omega arith))
+        | no d ↦ elim (decLe n 14680063) [
+          | yes e ↦ inl (255, row-C {n = n} (omega arith) e)
+          | no e ↦ inr (network-above n (omega arith), λ m r. outside r (λ k. omega arith) (λ k l. omega arith) (λ k l. omega arith))
+        ]
+      ]
+    ]
+  ]
+]
+
+join-answers : {n h : ℕ} {r : Answer Address} → JoinCall n h r → joinAnswer n h ≡ r
+join-answers {n} {h} (no-class none-such) = elim (row n) [
+  | inl r ↦ absurd (none-such (r .0) (r .1))
+  | inr e ↦ sym (join-none n h (e .0))
+]
+join-answers {n} {h} (host-too-large {most} r l) = let c = row-class r in laws.too-large n h (c .0) (c .1) (omega (arith, c .2))
+join-answers {n} {h} (joined {most} r l) = let c = row-class r in laws.joins n h (c .0) (c .1) (omega (arith, c .2)) ∙ ap (λ (m : ℕ). gives (V4 (n * (m + 1) + h))) (c .2)
+
+join-call : (n h : ℕ) → (r : Answer Address) × JoinCall n h r
+join-call n h = elim (row n) [
+  | inl r ↦ elim (decLe h (r .0)) [
+    | yes l ↦ (gives (V4 (n * (r .0 + 1) + h)), joined (r .1) l)
+    | no l ↦ (refuses noAddress HostTooLarge, host-too-large (r .1) (omega arith))
+  ]
+  | inr e ↦ (refuses noAddress NoClass, no-class (e .1))
+]
+
+-- A call answers what the table says, and nothing else.
+pub join-exactly : (n h : ℕ) (r : Answer Address) → (joinAnswer n h ≡ r) ↔ JoinCall n h r
+join-exactly n h r = (λ e. let s = join-call n h in subst (JoinCall n h) (sym (join-answers (s .1)) ∙ e) (s .1), join-answers)
+
+-- So there are three numbers.
+abbrev JoinNumbers : ℕ → ℕ → ℕ → Type 0
+JoinNumbers n h k =
+    ((k ≡ 0) ↔ ((most : ℕ) × Row n most × (h ≤ most)))
+    × ((k ≡ 6) ↔ ((most : ℕ) → Row n most → ⊥))
+    × ((k ≡ 7) ↔ ((most : ℕ) × Row n most × (most < h)))
+    × ((k ≡ 0) ⊎ (k ≡ 6) ⊎ (k ≡ 7))
+
+pub join-number : (n h : ℕ) → JoinNumbers n h (joinAnswer n h .number)
+join-number n h = let s = join-call n h in subst (JoinNumbers n h) (ap (λ r. r .number) (sym (join-answers (s .1)))) (go (s .1))
+  where
+    go : {r : Answer Address} → JoinCall n h r → JoinNumbers n h (r .number)
+    go (no-class f) = ((λ e. absurd (omega arith), λ k. absurd (f (k .0) (k .1))), (λ e. f, λ k. refl), (λ e. absurd (omega arith), λ k. absurd (f (k .0) (k .1))), inr (inl refl))
+    go (host-too-large {most} r l) = (
+      (λ e. absurd (omega arith), λ k. absurd (omega (arith, one-row r (k .1), l, k .2))),
+      (λ e. absurd (omega arith), λ k. absurd (k most r)),
+      (λ e. (most, r, l), λ k. refl),
+      inr (inr refl),
+    )
+    go (joined {most} r l) = (
+      (λ e. (most, r, l), λ k. refl),
+      (λ e. absurd (omega arith), λ k. absurd (k most r)),
+      (λ e. absurd (omega arith), λ k. absurd (omega (arith, one-row r (k .1), l, k .2))),
+      inl refl,
+    )
 
 -- A promise about the paper's answer fixes the code's answer.
 pub one-splitting : (r s : Splitting) → splittingAnswer r ≡ splittingAnswer s → r ≡ s

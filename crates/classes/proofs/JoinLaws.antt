@@ -7,16 +7,17 @@ use Prim.Native.Nat.{ℕ, _+_, _*_, _/_, _%_, _^_, _≤_, _<_}
 use native.Mathlib.Nat.{div-add-mod', mod-lt}
 use native.Mathlib.Decide.{decLe, decLt}
 use native.Mathlib.Omega.{arith}
-use borrow.Author.Tests.{le-ltb, ltb-false}
+use borrow.Author.Tests.{le-ltb, lt-ltb, ltb-false}
 use lib.Arith.{digits-div, digits-mod}
 use lib.Dec.{ltb}
 use Rattle.address.specs.declared.Address.{Address}
 use Rattle.address.specs.declared.Address.the-variants.{V4}
-use Rattle.address.specs.Answers.{answer, gives, refusal, missing, noAddress}
+use Rattle.address.specs.declared.Refusal.the-variants.{HostTooLarge}
+use Rattle.address.specs.Answers.{answer, gives, refuses, refusal, missing, noAddress}
 use Rattle.classes.specs.Classes.{Class, classA, classB, classC, classOf, networkClass, hosts, networkHost, hostTooLarge, hostAddress, splitAnswer, joinAnswer}
 use Rattle.classes.proofs.ClassLaws.{class-a, class-b, class-c, class-none, network-a, network-b, network-c, network-ab, network-bc, network-above, split-class, join-class}
 
-some-same : {c d : Class} → some c ≡ some d → c ≡ d
+pub some-same : {c d : Class} → some c ≡ some d → c ≡ d
 some-same e = cc
 
 none-some : {c : Class} → none ≡ some c → ⊥
@@ -68,6 +69,10 @@ address-same n h c e l = elim (decLe n 127) [
 pub joins : (n h : ℕ) (c : Class) → networkClass n ≡ some c → h ≤ c .hostMost → joinAnswer n h ≡ gives (V4 (n * hosts c + h))
 unfolding refusal
 joins n h c e l = sym (join-class n h c e) ∙ rw (le-ltb (c .hostMost) h l)
+
+pub too-large : (n h : ℕ) (c : Class) → networkClass n ≡ some c → c .hostMost < h → joinAnswer n h ≡ refuses noAddress HostTooLarge
+unfolding refusal
+too-large n h c e l = sym (join-class n h c e) ∙ rw (lt-ltb (c .hostMost) h l)
 
 pub join-split : (v : ℕ) (c : Class) → classOf v ≡ some c → joinAnswer (v / hosts c) (v % hosts c) ≡ gives (V4 v)
 join-split v c e =
