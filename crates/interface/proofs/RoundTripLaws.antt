@@ -14,7 +14,7 @@ use Rattle.address.specs.declared.Address.the-variants.{V4, V6}
 use Rattle.address.specs.declared.Refusal.the-variants.{NoClass}
 use Rattle.address.specs.Addresses.{IsAddress, family, width, number}
 use Rattle.address.specs.Answers.{Answer, refusal, gives, refuses}
-use Rattle.address.proofs.AnswerLaws.{no-refusal}
+use Rattle.address.proofs.Claims.{one-width}
 use Rattle.octets.specs.BigEndian.{AllBelow, numberOf}
 use Rattle.octets.specs.Octets.{octetsAnswer}
 use Rattle.octets.proofs.Claims.{number-is, no-address-exactly}
@@ -27,6 +27,7 @@ use Rattle.records.specs.Records.{recordSize, recordsOf, readRecords}
 use Rattle.records.proofs.Claims.{records-size}
 use Rattle.ranges.specs.Ranges.{rangeRecords, rangeReasons, rangeAnswer, rangeLeaves}
 use Rattle.ranges.proofs.Claims as ranges
+use Rattle.ranges.proofs.RangeLaws.{written, case-exactly}
 use Rattle.interface.specs.Interface.{Outcome, outcome, whenGiven, refusedBy, andThen, octetsSplit, rangeTo, rangeInto}
 
 -- ---- calls on the value of another
@@ -84,35 +85,6 @@ split-four bytes (V6 hi lo) n h e f = let z : _≡_ {A = ℕ} 9 0 = ap (λ (r : 
 
 -- ---- ranges
 
--- 9 where the families differ, then 8 where the range falls
-abbrev byRange : Bool → Bool → ℕ
-byRange same falls = cond (not same) 9 (cond falls 8 0)
-
-not-against : (p q : Bool) → byRange p q ≡ 0 → (p ≡ true) × (q ≡ false)
-not-against true true e = absurd (omega arith)
-not-against true false e = (refl, refl)
-not-against false q e = absurd (omega arith)
-
-module _ (first last : Address) where
-  abbrev Rises : Type 0
-  Rises = (family first ≡ family last) × (number first ≤ number last)
-
-  -- no reason of its own is against a range of one family that rises, and against no other
-  range-no-reason : (refusal (rangeReasons first last) ≡ 0) ↔ Rises
-  unfolding refusal
-  range-no-reason =
-      let same = eqb (family first) (family last) in
-      let falls = ltb (number last) (number first) in (
-        λ e. let r = not-against same falls e in (eqb-true (family first) (family last) (r .0), ltb-false (number last) (number first) (r .1)),
-        λ p. rw (eq-eqb (family first) (family last) (p .0), le-ltb (number last) (number first) (p .1)),
-      )
-
-  pub range-good : (old : List ℕ) → (rangeAnswer first last old .number ≡ 0) ↔ ((family first ≡ family last) × (number first ≤ number last) × (length (rangeRecords first last) ≤ length old))
-  unfolding rangeAnswer refusal
-  range-good old =
-      let good = no-refusal (rangeReasons first last) (rangeRecords first last) old refl in
-      (λ e. let g = good .0 e in let r = range-no-reason .0 (g .0) in (r .0, r .1, g .1), λ p. good .1 (range-no-reason .1 (p .0, p .1), p .2))
-
 -- a good range is that of two addresses
 pub range-went-on : (first last old : List ℕ) (f : ℕ × ℕ) → rangeInto first last old .answers ≡ gives f
     → let a = octetsAnswer first .fields in
@@ -134,21 +106,13 @@ Records old f W x y left =
 pub range-held : (first last : Address) (old : List ℕ) (f : ℕ × ℕ) → IsAddress last → rangeAnswer first last old ≡ gives f
     → Records old f (width first) (number first) (number last) (rangeLeaves first last old)
 range-held first last old f is good =
-    let (same, rises, room) = range-good first last old .0 (ap (λ r. r .number) good) in
-    let (_, fewest, counted, filled, left) = ranges.demand-3 first last old is same rises room in
-    subst (λ f. Records old f (width first) (number first) (number last) (rangeLeaves first last old)) (ap (λ r. r .fields) good) (fewest, counted, filled, left)
+    subst (λ f. Records old f (width first) (number first) (number last) (rangeLeaves first last old)) (ap (λ r. r .fields) good)
+    (ranges.good-answer first last old is (ap (λ r. r .number) good))
 
 pub held-same : (old : List ℕ) (f : ℕ × ℕ) {W W' x x' y y' : ℕ} {left left' : List ℕ} → W ≡ W' → x ≡ x' → y ≡ y' → left ≡ left' → Records old f W x y left → Records old f W' x' y' left'
 held-same old f {W} {W'} {x} {x'} {y} {y'} {left} {left'} p q r s =
     let all : _≡_ {A = ℕ × ℕ × ℕ × List ℕ} (W, x, y, left) (W', x', y', left') = λ i. (p i, q i, r i, s i) in
     subst (λ (z : ℕ × ℕ × ℕ × List ℕ). Records old f (z .0) (z .1) (z .2) (z .3)) all
-
--- two addresses are of one family exactly if they have as many bits
-family-bits : (a b : Address) → (family a ≡ family b) ↔ (width a ≡ width b)
-family-bits (V4 v) (V4 w) = (λ e. refl, λ e. refl)
-family-bits (V4 v) (V6 hi lo) = (λ e. absurd (omega arith), λ e. absurd (omega arith))
-family-bits (V6 hi lo) (V4 v) = (λ e. absurd (omega arith), λ e. absurd (omega arith))
-family-bits (V6 hi lo) (V6 h l) = (λ e. refl, λ e. refl)
 
 -- when a range of octets is good
 pub range-good-octets : (first last old : List ℕ) (a b : Address) → octetsAnswer first ≡ gives a → octetsAnswer last ≡ gives b
@@ -159,8 +123,8 @@ range-good-octets first last old a b is-a is-b =
     let (bits-a, x) = number-is first a is-a in
     let (bits-b, y) = number-is last b is-b in
     let size = records-size (width a) (rangeBlocks (width a) (number a) (number b)) ∙ (λ i. recordSize (bits-a i) * length (rangeBlocks (bits-a i) (x i) (y i))) in
-    let good = range-good a b old in
-    let bits = family-bits a b in (
+    let good = case-exactly a b old written in
+    let bits = one-width a b in (
       λ e. let (same, rises, room) = good .0 e in (omega (arith, bits .0 same), omega arith, omega arith),
       λ r. good .1 (bits .1 (omega (arith, r .0)), omega (arith, r .1), omega (arith, r .2)),
     )

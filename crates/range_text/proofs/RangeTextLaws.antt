@@ -20,6 +20,7 @@ use Rattle.address.specs.declared.Refusal.the-variants.{FirstAboveLast, WrongFa
 use Rattle.address.specs.Addresses.{family, width, number, IsAddress}
 use Rattle.address.specs.Answers.{Answer, refusalNumber, gives, refuses, noAddress, noBlock}
 use Rattle.address.specs.Blocks.{numbered}
+use Rattle.address.proofs.AddressLaws.{width-follows}
 use Rattle.address.proofs.AnswerLaws.{number-pos, nonzero}
 use Rattle.address.proofs.Claims.{gives-one, address-below}
 use Rattle.digits.specs.Pieces.{indexOf, splitOn}
@@ -33,7 +34,7 @@ use Rattle.records.specs.Records.{recordSize, recordOf, recordsOf, recordAnswer
 use Rattle.records.proofs.RecordLaws.{record-length}
 use Rattle.records.proofs.Claims.{read-back-answer}
 use Rattle.ranges.specs.Ranges.{blocksOf, rangeRecords, rangeAnswer, rangeLeaves}
-use Rattle.ranges.proofs.RangeLaws.{same-width, range-apart, range-falling, range-written}
+use Rattle.ranges.proofs.RangeLaws.{range-apart, range-falling, range-written}
 use Rattle.ranges.proofs.Claims.{enough-310, enough-4318}
 use Rattle.range_text.specs.RangeText.{refusedLine, likeBlock, blockLines, PutsLines, rangeText, readText, piecesText, lineText}
 
@@ -43,13 +44,13 @@ like-width : (like : Address) (b : cover.Block) → width (likeBlock like b .add
 like-width (V4 v) b = refl
 like-width (V6 hi lo) b = refl
 
-like-numbered : (like : Address) (b : cover.Block) → numbered (likeBlock like b) ≡ b
+pub like-numbered : (like : Address) (b : cover.Block) → numbered (likeBlock like b) ≡ b
 like-numbered (V4 v) b = refl
 like-numbered (V6 hi lo) b =
     let whole : b .address / 2 ^ 64 * 2 ^ 64 + b .address % 2 ^ 64 ≡ b .address = omega arith in
     λ i. record { address = whole i; length = b .length }
 
-like-address : (like : Address) (b : cover.Block) → b .address < 2 ^ width like → IsAddress (likeBlock like b .address)
+pub like-address : (like : Address) (b : cover.Block) → b .address < 2 ^ width like → IsAddress (likeBlock like b .address)
 like-address (V4 v) b h = h
 like-address (V6 hi lo) b h = (div-lt-iff-lt-mul (lit< tt) .1 h, mod-lt (b .address) (lit< tt))
 
@@ -120,16 +121,16 @@ walk-on {rest} w h g p q = record { same = puts-length q ∙ puts-length p ∙ w
 -- ---- the text of a range
 
 module _ (first last : Address) where
-  text-apart : ¬ (family first ≡ family last) → refusedLine 9 ≡ rangeText first last
+  pub text-apart : ¬ (family first ≡ family last) → refusedLine 9 ≡ rangeText first last
   unfolding rangeText
   text-apart n = rw (ne-eqb (family first) (family last) n)
 
   module _ (same : family first ≡ family last) where
-    text-falling : number last < number first → refusedLine 8 ≡ rangeText first last
+    pub text-falling : number last < number first → refusedLine 8 ≡ rangeText first last
     unfolding rangeText
     text-falling h = rw (eq-eqb (family first) (family last) same, lt-ltb (number last) (number first) h)
 
-    text-rising : number first ≤ number last → blockLines first (blocksOf first last) ≡ rangeText first last
+    pub text-rising : number first ≤ number last → blockLines first (blocksOf first last) ≡ rangeText first last
     unfolding rangeText
     text-rising h = rw (eq-eqb (family first) (family last) same, le-ltb (number last) (number first) h)
 
@@ -185,7 +186,7 @@ module _ (first last : Address) (is : IsAddress last) (old : List ℕ) (room : 4
         let all : bytes ≡ length records = ap (λ r. r .fields .1) (e ∙ sym (w .0)) in
         let whole : left ≡ records ++ more = l ∙ sym (w .1) in
         let front : take bytes left ≡ records = ap₂ take all whole ∙ take-at records more (length records) refl in
-        let rules = range-is-fewest (width first) (number first) (number last) (rw (same-width first last s) (address-below last is)) .blocks in
+        let rules = range-is-fewest (width first) (number first) (number last) (rw (width-follows first last s) (address-below last is)) .blocks in
         record { fits = omega (arith, ap length whole, length-append records more); lines = λ p. rw (← t) (p (blocksOf first last) rules front) }
   ]
 
@@ -211,7 +212,7 @@ module _ (t : List ℕ) where
   line-long h = rw (lt-ltb 129 (length t) h)
 
   module _ (short : length t ≤ 129) where
-    line-pieces : (ps : List (List ℕ)) → splitOn 32 t ≡ ps → piecesText ps ≡ lineText t
+    pub line-pieces : (ps : List (List ℕ)) → splitOn 32 t ≡ ps → piecesText ps ≡ lineText t
     unfolding lineText
     line-pieces ps e = rw (le-ltb 129 (length t) short, e)
 

@@ -1,0 +1,184 @@
+-- The lines of an answer, read again as block texts. Assumes nothing.
+use mathlib.Core.Path.{_≡_, refl, sym, ap, ap₂, subst, _∙_}
+use mathlib.Core.Logic.{_⊎_, inl, inr}
+use mathlib.Core.Bool.{Bool, true, false}
+use mathlib.Core.List.{List, [], _∷_, _++_, map}
+use mathlib.Core.Option.{Option, some, none, Option·getD}
+use Prim.Native.Nat.{ℕ, suc}
+use native.Mathlib.Omega.{arith}
+use lib.Dec.{eqb, ltb, lit≤}
+use lib.ListN.{length, length-append}
+use Rattle.cover.specs.Blocks as cover
+use Rattle.address.specs.declared.Address.{Address}
+use Rattle.address.specs.declared.Block.{Block}
+use Rattle.address.specs.declared.Refusal.{Refusal}
+use Rattle.address.specs.declared.Refusal.the-variants.{TextTooLong, Malformed, FirstAboveLast, WrongFamily}
+use Rattle.address.specs.Addresses.{family, width, number}
+use Rattle.address.specs.Answers.{gives, noBlock, readAnswer}
+use Rattle.address.specs.Blocks.{numbered, blockReasons}
+use Rattle.address.proofs.AddressLaws.{width-follows}
+use Rattle.digits.specs.Ascii.{ascii}
+use Rattle.digits.specs.Numerals.{digitOf, partOf}
+use Rattle.digits.specs.Pieces.{contains}
+use Rattle.digits.proofs.NumeralLaws.{no-digit, part-digits}
+use Rattle.digits.proofs.SeparatedLaws.{Lacks, lacks-append, seam}
+use Rattle.text.specs.Strict.{strictOf, strictAnswer}
+use Rattle.text.proofs.ByteLaws.{strict-lacks}
+use Rattle.blocks.specs.BlockText.{withLength, blockOf, blockText, blockTextAnswer}
+use Rattle.blocks.proofs.Claims.{read-back-answer}
+use Rattle.ranges.specs.Ranges.{blocksOf}
+use Rattle.range_text.specs.RangeText.{lineText}
+use Rattle.range_text.specs.LineForm.{space, newline, Free, AllFree, ended, refusedText, OfFamily, TwoTexts, Line, too-long, no-space, more-spaces, first-refused, second-refused, two-families, first-above-last, range, RangeLine, FewestLines}
+use Rattle.range_text.proofs.LineFormLaws.{free-lacks, lacks-free, first-byte, strict-gives, values, values-numbered, values-family, range-fewest, line-answers}
+
+-- ---- a text that is read as a block holds hex digits, dots, colons and slashes alone
+
+-- what is read has a meaning
+block-meant : (t : List ℕ) (b : Block) → blockTextAnswer t ≡ gives b → (c : Block) × (blockOf t ≡ some c)
+unfolding blockTextAnswer readAnswer
+block-meant t b e = go (blockOf t) (ltb 64 (length t)) (ap (λ r. r .number) e)
+  where
+    go : (o : Option Block) (l : Bool) → readAnswer noBlock ((1, l) ∷ blockReasons (Option·getD o noBlock)) o .number ≡ 0 → (c : Block) × (o ≡ some c)
+    go none true h = let z : _≡_ {A = ℕ} 1 0 = h in absurd (omega arith)
+    go none false h = let z : _≡_ {A = ℕ} 2 0 = h in absurd (omega arith)
+    go (some c) l h = (c, refl)
+
+-- the two parts of what has a length
+parts : (o : Option Address) (n : Option ℕ) (b : Block) → withLength o n ≡ some b → ((a : Address) × (o ≡ some a)) × ((k : ℕ) × (n ≡ some k))
+parts none n b e = let z : _≡_ {A = ℕ} 0 1 = cc in absurd (omega arith)
+parts (some a) none b e = let z : _≡_ {A = ℕ} 0 1 = cc in absurd (omega arith)
+parts (some a) (some k) b e = ((a, refl), (k, refl))
+
+no-meaning : {A : Type 0} (t : List ℕ) → Lacks 47 t → (b : Block) → blockOf t ≡ some b → A
+unfolding blockOf
+no-meaning t l b e = let n : none ≡ some b = rw l at e in let z : _≡_ {A = ℕ} 0 1 = cc in absurd (omega arith)
+
+slash-meaning : (s u : List ℕ) → Lacks 47 s → blockOf (s ++ 47 ∷ u) ≡ withLength (strictOf 0 s) (partOf 999 u)
+unfolding blockOf
+slash-meaning s u l = let w = seam 47 s u l in rw (w .0, w .1, w .2)
+
+module _ (c : ℕ) (digit : digitOf c ≡ 16) (dot : eqb 46 c ≡ false) (colon : eqb 58 c ≡ false) (slash : eqb 47 c ≡ false) where
+  block-lacks : (t : List ℕ) (b : Block) → blockOf t ≡ some b → Lacks c t
+  unfolding contains
+  block-lacks t b e = elim (first-byte 47 t) [
+    | inl f ↦ no-meaning t (free-lacks f) b e
+    | inr p ↦
+        let s = p .0 in
+        let u = p .1 in
+        let q = parts (strictOf 0 s) (partOf 999 u) b (sym (slash-meaning s u (free-lacks (p .3))) ∙ ap blockOf (sym (p .2)) ∙ e) in
+        let left = strict-lacks c digit dot colon 0 s (q .0 .0) (q .0 .1) in
+        let right = no-digit 10 c u (lit≤ tt) digit (part-digits 999 u (q .1 .0) (q .1 .1) .all) in
+        subst (Lacks c) (sym (p .2)) (lacks-append c s (47 ∷ u) left (rw slash right))
+  ]
+
+  pub read-lacks : (t : List ℕ) (b : Block) → blockTextAnswer t ≡ gives b → Lacks c t
+  read-lacks t b e = let m = block-meant t b e in block-lacks t (m .0) (m .1)
+
+-- so a refusal's line, which holds a space, is not read
+refused-spaced : (e : Refusal) → Lacks 32 (refusedText e) → ⊥
+unfolding contains ascii
+refused-spaced e h = let z : _≡_ {A = ℕ} 0 1 = cc in omega arith
+
+pub refused-unread : (e : Refusal) (b : Block) → blockTextAnswer (refusedText e) ≡ gives b → ⊥
+unfolding digitOf
+refused-unread e b h = refused-spaced e (read-lacks 32 refl refl refl refl (refusedText e) b h)
+
+-- ---- the texts of blocks
+
+pub texts-read : (f : Address) (bs : List Block) → OfFamily (family f) bs → cover.AllBlocks (width f) (map numbered bs) → map blockTextAnswer (map blockText bs) ≡ map gives bs
+texts-read f [] h k = refl
+texts-read f (b ∷ bs) h k =
+    ap₂ (λ r rs. r ∷ rs) (read-back-answer b (h .1) (rw (width-follows (b .address) f (h .0)) (k .0))) (texts-read f bs (h .2) (k .1))
+
+texts-free : (f : Address) (bs : List Block) → OfFamily (family f) bs → cover.AllBlocks (width f) (map numbered bs) → AllFree newline (map blockText bs)
+unfolding digitOf
+texts-free f [] h k = tt
+texts-free f (b ∷ bs) h k =
+    let read = read-back-answer b (h .1) (rw (width-follows (b .address) f (h .0)) (k .0)) in
+    (lacks-free newline (blockText b) (read-lacks 10 refl refl refl refl (blockText b) b read), texts-free f bs (h .2) (k .1))
+
+texts-count : (bs : List Block) → length (map blockText bs) ≡ length bs
+texts-count [] = refl
+texts-count (b ∷ bs) = ap suc (texts-count bs)
+
+-- ---- the line of two addresses
+
+spaceless : (t : List ℕ) (c : Address) → strictAnswer 0 t ≡ gives c → Free space t
+unfolding digitOf
+spaceless t c e = lacks-free space t (strict-lacks 32 refl refl refl 0 t c (strict-gives t c e .1))
+
+module _ {line : List ℕ} (r : RangeLine line) where
+  two-addresses : TwoTexts line (r .before) (r .behind)
+  two-addresses =
+      record {
+        is = r .is;
+        short = omega (
+          arith,
+          ap length (r .is),
+          length-append (r .before) (space ∷ r .behind),
+          strict-gives (r .before) (r .first) (r .first-read) .0,
+          strict-gives (r .behind) (r .last) (r .last-read) .0,
+        );
+        before = spaceless (r .before) (r .first) (r .first-read);
+        behind = spaceless (r .behind) (r .last) (r .last-read);
+      }
+
+  pub fewest-lines : FewestLines (r .first) (r .last) (lineText line)
+  fewest-lines =
+      let w = two-addresses in
+      let a = r .first in
+      let b = r .last in
+      let cs = blocksOf a b in
+      let bs = values a cs in
+      let on : cover.Fewest (width a) (cover.Range (number a) (number b)) cs = range-fewest w a (r .first-read) b (r .last-read) (r .one-family) in
+      let few : cover.Fewest (width a) (cover.Range (number a) (number b)) (map numbered bs) = rw (values-numbered a cs) on in
+      let all = values-family a cs (on .blocks) in
+      record {
+        lines = map blockText bs;
+        blocks = bs;
+        text-is = line-answers (range bs w (r .first-read) (r .last-read) (r .one-family) (r .rises) all few);
+        one-line-each = texts-free a bs all (few .blocks);
+        count = texts-count bs;
+        read = texts-read a bs all (few .blocks);
+        one-family = all;
+        fewest = few;
+      }
+
+  -- and the line holds no newline
+  pub line-free : Free newline line
+  unfolding digitOf contains
+  line-free =
+      subst (Free newline) (sym (r .is)) (
+      lacks-free newline (r .before ++ space ∷ r .behind) (
+      lacks-append 10 (r .before) (space ∷ r .behind)
+      (strict-lacks 10 refl refl refl 0 (r .before) (r .first) (strict-gives (r .before) (r .first) (r .first-read) .1))
+      (strict-lacks 10 refl refl refl 0 (r .behind) (r .last) (strict-gives (r .behind) (r .last) (r .last-read) .1))
+      )
+      )
+
+-- ---- a range's lines, or a refusal's
+
+pub range-or-refused : {line text : List ℕ} → Line line text → RangeLine line ⊎ ((e : Refusal) × (text ≡ ended (refusedText e ∷ [])))
+range-or-refused (too-long h) = inr (TextTooLong, refl)
+range-or-refused (no-space h f) = inr (Malformed, refl)
+range-or-refused (more-spaces s t u h) = inr (Malformed, refl)
+range-or-refused (first-refused e w h) = inr (e, refl)
+range-or-refused (second-refused e w h k) = inr (e, refl)
+range-or-refused (two-families w h k n) = inr (WrongFamily, refl)
+range-or-refused (first-above-last w h k e l) = inr (FirstAboveLast, refl)
+range-or-refused (range {line} {s} {t} {a} {b} bs w h k e l all few) =
+    inl (record { before = s; behind = t; is = w .is; first = a; last = b; first-read = h; last-read = k; one-family = e; rises = l })
+
+-- lines that are read hold no space, and a refusal's does
+lines-lack : (ts : List (List ℕ)) (bs : List Block) → map blockTextAnswer ts ≡ map gives bs → Lacks 32 (ended ts)
+unfolding contains digitOf
+lines-lack [] bs e = refl
+lines-lack (t ∷ ts) [] e = let z : _≡_ {A = ℕ} 0 1 = cc in absurd (omega arith)
+lines-lack (t ∷ ts) (b ∷ bs) e =
+    let here : blockTextAnswer t ≡ gives b = cc in
+    let more : map blockTextAnswer ts ≡ map gives bs = cc in
+    lacks-append 32 t (10 ∷ ended ts) (read-lacks 32 refl refl refl refl t b here) (lines-lack ts bs more)
+
+pub not-both : (a b : Address) (text : List ℕ) → FewestLines a b text → (e : Refusal) → text ≡ ended (refusedText e ∷ []) → ⊥
+unfolding contains ascii
+not-both a b text f e h = let l : Lacks 32 (ended (refusedText e ∷ [])) = ap (contains 32) (sym h ∙ f .text-is) ∙ lines-lack (f .lines) (f .blocks) (f .read) in let z : _≡_ {A = ℕ} 0 1 = cc in omega arith
