@@ -90,17 +90,17 @@ refused-spelt WrongFamily = refl
 -- ---- an address text
 
 -- it is read or refused
-data Outcome (t : List ℕ) : Type 0 where
-  good : (a : Address) → strictAnswer 0 t ≡ gives a → Outcome t
-  bad : (e : Refusal) → strictAnswer 0 t ≡ refuses noAddress e → Outcome t
+data Judged (t : List ℕ) : Type 0 where
+  good : (a : Address) → strictAnswer 0 t ≡ gives a → Judged t
+  bad : (e : Refusal) → strictAnswer 0 t ≡ refuses noAddress e → Judged t
 
-outcome-of : (t : List ℕ) → Outcome t
-outcome-of t = elim (decLe (length t) 64) [
+judged : (t : List ℕ) → Judged t
+judged t = elim (decLe (length t) 64) [
   | yes h ↦ go (strictOf 0 t) (sym (strict-read 0 t refl h))
   | no n ↦ bad TextTooLong (sym (strict-long 0 t refl (omega arith)))
 ]
   where
-    go : (o : Option Address) → strictAnswer 0 t ≡ readingAnswer (asReading o) → Outcome t
+    go : (o : Option Address) → strictAnswer 0 t ≡ readingAnswer (asReading o) → Judged t
     go none e = bad Malformed e
     go (some a) e = good a e
 
@@ -204,9 +204,9 @@ line-answers (range {a} {b} bs w h k e l all few) =
 -- ---- from the line to the sentence
 
 two-line : {line s t : List ℕ} → TwoTexts line s t → (text : List ℕ) × Line line text
-two-line {line} {s} {t} w = elim (outcome-of s) [
+two-line {line} {s} {t} w = elim (judged s) [
   | bad e h ↦ (ended (refusedText e ∷ []), form.first-refused e w h)
-  | good a h ↦ elim (outcome-of t) [
+  | good a h ↦ elim (judged t) [
     | bad e k ↦ (ended (refusedText e ∷ []), form.second-refused e w h k)
     | good b k ↦ elim (ℕ-discrete (family a) (family b)) [
       | no n ↦ (ended (refusedText WrongFamily ∷ []), two-families w h k n)
