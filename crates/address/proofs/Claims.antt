@@ -246,7 +246,7 @@ same-block-means a b h k = (
 
 -- ---- blocks
 
--- its number has no more bits than that
+-- The number of an address has no more bits than its family.
 pub address-below : (a : Address) → IsAddress a → number a < 2 ^ width a
 address-below (V4 v) h = h
 address-below (V6 hi lo) h = digits-lt (h .0) (h .1)

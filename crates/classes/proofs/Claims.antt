@@ -14,6 +14,7 @@ use Rattle.classes.specs.Classes.{Class, classA, classB, classC, classOf
 use Rattle.classes.specs.ClassTable.{SplitCall, class-A, class-B, class-C, bits-111, not-IPv4, Row, row-A, row-B, row-C, JoinCall, no-class, host-too-large, joined}
 use Rattle.classes.proofs.ClassLaws.{class-a, class-b, class-c, class-none, split-class, split-none, split-6, network-a, network-b, network-c, network-ab, network-bc, network-above, join-none}
 use Rattle.classes.proofs.JoinLaws as laws
+use Rattle.classes.proofs.TableLaws.{split-answers, split-call, one-row, join-answers, join-call}
 use Rattle.address.proofs.Claims.{Cases, given, not-given, one-answer}
 use Rattle.classes.specs.declared.Splitting.{Splitting}
 use Rattle.classes.specs.declared.Splitting.the-variants.{NetworkHost, Refused}
@@ -34,27 +35,6 @@ split-of-join n h a e =
     subst (λ b. IsAddress b × (splitAnswer b ≡ gives (n, h))) same (laws.address-same n h (s .0) (s .1) (s .2) .1, laws.split-join n h (s .0) (s .1) (s .2))
 
 -- ---- the table by its first bits
-
-split-answers : {a : Address} {r : Answer (ℕ × ℕ)} → SplitCall a r → splitAnswer a ≡ r
-split-answers (class-A {v} h) = sym (split-class v classA (class-a v (omega arith)))
-split-answers (class-B {v} h) = sym (split-class v classB (class-b v (omega arith) (omega arith)))
-split-answers (class-C {v} h) = sym (split-class v classC (class-c v (omega arith) (omega arith)))
-split-answers (bits-111 {v} h) = sym (split-none v (class-none v (omega arith)))
-split-answers (not-IPv4 {hi} {lo}) = sym (split-6 hi lo)
-
--- every address has its row
-split-call : (a : Address) → IsAddress a → (r : Answer (ℕ × ℕ)) × SplitCall a r
-split-call (V4 v) h = elim (decLt v 2147483648) [
-  | yes a ↦ (gives (v / 2 ^ 24, v % 2 ^ 24), class-A {v = v} (omega arith))
-  | no a ↦ elim (decLt v 3221225472) [
-    | yes b ↦ (gives (v / 2 ^ 16, v % 2 ^ 16), class-B {v = v} (omega arith))
-    | no b ↦ elim (decLt v 3758096384) [
-      | yes c ↦ (gives (v / 2 ^ 8, v % 2 ^ 8), class-C {v = v} (omega arith))
-      | no c ↦ (refuses (0, 0) NoClass, bits-111 {v = v} (omega arith))
-    ]
-  ]
-]
-split-call (V6 hi lo) h = (refuses (0, 0) WrongFamily, not-IPv4)
 
 -- A call answers what the table says, and nothing else.
 pub split-exactly : (a : Address) → IsAddress a → (r : Answer (ℕ × ℕ)) → (splitAnswer a ≡ r) ↔ SplitCall a r
@@ -117,56 +97,6 @@ pub columns-agree : Agrees classA × Agrees classB × Agrees classC
 columns-agree = (λ n. (λ h. omega arith, λ h. (omega arith, omega arith)), λ n. (λ h. omega arith, λ h. (omega arith, omega arith)), λ n. (λ h. omega arith, λ h. (omega arith, omega arith)))
 
 -- ---- the table by its network numbers
-
-row-class : {n most : ℕ} → Row n most → (c : Class) × (networkClass n ≡ some c) × (c .hostMost ≡ most)
-row-class (row-A {n} h) = (classA, network-a n h, refl)
-row-class (row-B {n} l h) = (classB, network-b n l h, refl)
-row-class (row-C {n} l h) = (classC, network-c n l h, refl)
-
--- a network number lies in one row at most
-one-row : {n l m : ℕ} → Row n l → Row n m → l ≡ m
-one-row r s = let c = row-class r in let d = row-class s in let same : c .0 ≡ d .0 = laws.some-same (sym (c .1) ∙ d .1) in sym (c .2) ∙ ap (λ x. x .hostMost) same ∙ d .2
-
-outside : {n m : ℕ} → Row n m → (n ≤ 127 → ⊥) → (32768 ≤ n → n ≤ 49151 → ⊥) → (12582912 ≤ n → n ≤ 14680063 → ⊥) → ⊥
-outside (row-A h) a b c = a h
-outside (row-B l h) a b c = b l h
-outside (row-C l h) a b c = c l h
-
--- a network number has a row, or is of no class
-row : (n : ℕ) → ((most : ℕ) × Row n most) ⊎ ((networkClass n ≡ none) × ((most : ℕ) → Row n most → ⊥))
-row n = elim (decLe n 127) [
-  | yes a ↦ inl (16777215, row-A a)
-  | no a ↦ elim (decLt n 32768) [
-    | yes b ↦ inr (network-ab n (omega arith) b, λ m r. outside r (λ k. omega arith) (λ k l. omega arith) (λ k l. omega arith))
-    | no b ↦ elim (decLe n 49151) [
-      | yes c ↦ inl (65535, row-B {n = n} (omega arith) c)
-      | no c ↦ elim (decLt n 12582912) [
-        | yes d ↦ inr (network-bc n (omega arith) d, λ m r. outside r (λ k. omega arith) (λ k l. omega arith) (λ k l. omega arith))
-        | no d ↦ elim (decLe n 14680063) [
-          | yes e ↦ inl (255, row-C {n = n} (omega arith) e)
-          | no e ↦ inr (network-above n (omega arith), λ m r. outside r (λ k. omega arith) (λ k l. omega arith) (λ k l. omega arith))
-        ]
-      ]
-    ]
-  ]
-]
-
-join-answers : {n h : ℕ} {r : Answer Address} → JoinCall n h r → joinAnswer n h ≡ r
-join-answers {n} {h} (no-class none-such) = elim (row n) [
-  | inl r ↦ absurd (none-such (r .0) (r .1))
-  | inr e ↦ sym (join-none n h (e .0))
-]
-join-answers {n} {h} (host-too-large {most} r l) = let c = row-class r in laws.too-large n h (c .0) (c .1) (omega (arith, c .2))
-join-answers {n} {h} (joined {most} r l) = let c = row-class r in laws.joins n h (c .0) (c .1) (omega (arith, c .2)) ∙ ap (λ (m : ℕ). gives (V4 (n * (m + 1) + h))) (c .2)
-
-join-call : (n h : ℕ) → (r : Answer Address) × JoinCall n h r
-join-call n h = elim (row n) [
-  | inl r ↦ elim (decLe h (r .0)) [
-    | yes l ↦ (gives (V4 (n * (r .0 + 1) + h)), joined (r .1) l)
-    | no l ↦ (refuses noAddress HostTooLarge, host-too-large (r .1) (omega arith))
-  ]
-  | inr e ↦ (refuses noAddress NoClass, no-class (e .1))
-]
 
 -- A call answers what the table says, and nothing else.
 pub join-exactly : (n h : ℕ) (r : Answer Address) → (joinAnswer n h ≡ r) ↔ JoinCall n h r

@@ -19,8 +19,8 @@ pub covers-exactly : {W : ℕ} {b : Block} → IsBlock W b → (x : ℕ) → Cov
 covers-exactly B x = (λ c. let w = interval.covers→within B c in (w .low, w .high), λ h. interval.within→covers B (record { low = h .0; high = h .1 }))
 
 -- "A block may be as large as its starting address has trailing zero bits, and no larger": so large are all blocks, and all that are so large are blocks.
-pub block-exactly : (W : ℕ) (b : Block) → IsBlock W b ↔ ((b .address < 2 ^ W) × (b .length ≤ W) × (W - b .length ≤ trailingZeros W (b .address)))
-block-exactly W b =
+pub block-size-exactly : (W : ℕ) (b : Block) → IsBlock W b ↔ ((b .address < 2 ^ W) × (b .length ≤ W) × (W - b .length ≤ trailingZeros W (b .address)))
+block-size-exactly W b =
     let zeros = aligned-trailing W (b .address) (W - b .length) (omega arith) in
     (λ B. (B .below, B .short, zeros .0 (B .aligned)), λ h. record { below = h .0; short = h .1; aligned = zeros .1 (h .2) })
 
@@ -71,21 +71,21 @@ at-most-6 first last = at-most 128 first last (omega arith)
 -- ---- computed: the definition runs
 
 -- 0.0.0.0 to 255.255.255.255, and all of IPv6, are one block of length 0
-all-4 : rangeBlocks 32 0 (2 ^ 32 - 1) ≡ record { address = 0; length = 0 } ∷ []
+pub all-4 : rangeBlocks 32 0 (2 ^ 32 - 1) ≡ record { address = 0; length = 0 } ∷ []
 unfolding rangeBlocks
 all-4 = refl
 
-all-6 : rangeBlocks 128 0 (2 ^ 128 - 1) ≡ record { address = 0; length = 0 } ∷ []
+pub all-6 : rangeBlocks 128 0 (2 ^ 128 - 1) ≡ record { address = 0; length = 0 } ∷ []
 unfolding rangeBlocks
 all-6 = refl
 
 -- the last address alone: the walk does not wrap
-last-6 : rangeBlocks 128 (2 ^ 128 - 1) (2 ^ 128 - 1) ≡ record { address = 2 ^ 128 - 1; length = 128 } ∷ []
+pub last-6 : rangeBlocks 128 (2 ^ 128 - 1) (2 ^ 128 - 1) ≡ record { address = 2 ^ 128 - 1; length = 128 } ∷ []
 unfolding rangeBlocks
 last-6 = refl
 
 -- 10.0.0.1 to 10.0.0.6, the whole case of 01
-whole-case : rangeBlocks 32 0x0a000001 0x0a000006
+pub whole-case : rangeBlocks 32 0x0a000001 0x0a000006
     ≡ record { address = 0x0a000001; length = 32 } ∷ record { address = 0x0a000002; length = 31 }
     ∷ record { address = 0x0a000004; length = 31 } ∷ record { address = 0x0a000006; length = 32 } ∷ []
 unfolding rangeBlocks

@@ -12,12 +12,13 @@ use Rattle.address.specs.declared.Address.{Address}
 use Rattle.address.specs.declared.Address.the-variants.{V4}
 use Rattle.address.specs.declared.Block.{Block}
 use Rattle.address.specs.declared.Refusal.the-variants.{TextTooLong, Malformed, LengthTooLarge, BitsBeyondLength}
-use Rattle.address.specs.Addresses.{width, number}
+use Rattle.address.specs.Addresses.{IsAddress, width, number}
 use Rattle.address.specs.Answers.{Answer, gives, noBlock, readAnswer}
 use Rattle.address.specs.Blocks.{blockReasons}
 use Rattle.address.proofs.BlockLaws.{refusal-length, refusal-bits, refusal-none, read-valid, read-refused}
 use Rattle.address.proofs.Claims.{gives-one, gives-refuses}
-use Rattle.digits.specs.Numerals.{digitOf, partOf}
+use Rattle.digits.specs.Numerals.{digitOf, partOf, decimal}
+use Rattle.digits.proofs.NumeralLaws.{decimal-part}
 use Rattle.digits.specs.Pieces.{contains, indexOf}
 use Rattle.digits.proofs.SeparatedLaws.{Lacks, seam}
 use Rattle.text.specs.Strict.{strictOf}
@@ -25,11 +26,12 @@ use Rattle.text.proofs.ByteLaws.{strict-lacks}
 use Rattle.blocks.specs.BlockText.{withLength, blockOf, blockTextAnswer, blockText}
 use Rattle.blocks.proofs.BlockTextLaws.{answer-long, answer-malformed, answer-checked}
 use Rattle.grammar.specs.StrictForm.{IPv4Text, IPv6Text, StrictForm, either-4, either-6}
-use Rattle.grammar.specs.BlockForm.{BlockForm, prefix, BlockCall, too-long, not-block, length-above, bits-beyond, block}
+use Rattle.grammar.specs.BlockForm.{BlockForm, prefix, BlockCall, too-long, not-block, length-above, bits-beyond, block, WrittenBlock, normal-prefix}
 use Rattle.grammar.proofs.OptionLaws.{impossible, nothing-there}
 use Rattle.grammar.proofs.NumberLaws.{size-reads, reads-size, size-999, size-spelling}
 use Rattle.grammar.proofs.LengthLaws.{block-most}
 use Rattle.grammar.proofs.StrictFormLaws.{form-reads, reads-0, text-spelling}
+use Rattle.grammar.proofs.NormalFormLaws.{normal-written, written-normal}
 use Rattle.grammar.proofs.NetworkFormLaws.{around}
 
 abbrev value : Address → ℕ → Block
@@ -119,3 +121,13 @@ is-ipv4 (either-4 h) = h
 pub block-spelling : {t : List ℕ} {v n : ℕ} → BlockForm t (V4 v) n → blockText (value (V4 v) n) ≡ t
 unfolding blockText
 block-spelling (prefix s p) = ap₂ (λ a b. a ++ 47 ∷ b) (text-spelling (is-ipv4 s)) (size-spelling p)
+
+-- ---- writing
+
+pub block-written : {a : Address} {n : ℕ} {t : List ℕ} → WrittenBlock a n t → blockText (value a n) ≡ t
+unfolding blockText
+block-written (normal-prefix h p) = ap₂ (λ a b. a ++ 47 ∷ b) (normal-written h) (size-spelling p)
+
+pub written-block : (b : Block) → IsAddress (b .address) → b .length ≤ 999 → WrittenBlock (b .address) (b .length) (blockText b)
+unfolding blockText
+written-block b is l = normal-prefix (written-normal (b .address) is) (reads-size 999 (decimal (b .length)) (b .length) (decimal-part 999 (b .length) l (omega arith)) .0)

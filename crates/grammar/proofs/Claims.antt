@@ -1,11 +1,13 @@
 -- What is claimed of the published grammar and of the loose, network and block forms: reading accepts exactly their texts, answers what they
 -- mean and refuses all others by their numbers. Assumes nothing.
 use mathlib.Core.Path.{_≡_, refl, sym, ap, subst, subst₂, _∙_}
+use mathlib.Core.Bool.{false}
 use mathlib.Core.List.{List, [], _∷_, _++_}
 use mathlib.Core.Logic.{_⊎_, inl, inr, _↔_}
 use mathlib.Core.Option.{some}
 use Prim.Native.Nat.{ℕ, _+_, _-_, _*_, _/_, _%_, _^_, _≤_, _<_}
 use native.Mathlib.Omega.{arith}
+use lib.Dec.{eqb}
 use lib.ListN.{length, drop, replicate}
 use Rattle.address.specs.declared.Address.{Address}
 use Rattle.address.specs.declared.Address.the-variants.{V4}
@@ -20,11 +22,12 @@ use Rattle.address.specs.declared.Writing.{Writing}
 use Rattle.address.proofs.Claims.{one-reading}
 use Rattle.octets.specs.BigEndian.{AllBelow, digitsOf, numberOf}
 use Rattle.octets.specs.Octets.{octets}
-use Rattle.digits.specs.Numerals.{partOf, groupOf, decimal}
+use Rattle.digits.specs.Numerals.{digitOf, partOf, groupOf}
+use Rattle.digits.specs.Pieces.{contains}
 use Rattle.dotted.specs.Dotted.{dottedOf}
 use Rattle.groups.specs.EightGroups.{eightOf}
 use Rattle.text.specs.Strict.{strictOf, strictAnswer}
-use Rattle.normal.specs.Normal.{normalText}
+use Rattle.normal.specs.Normal.{normalGroups, normalText}
 use Rattle.normal.proofs.Claims as normal
 use Rattle.loose.specs.Loose.{loosePart, looseOf, looseAnswer}
 use Rattle.given.specs.GivenBytes.{givenOf, zeroFilled}
@@ -34,17 +37,19 @@ use Rattle.network.specs.Network.{Network, networkOf, networkAnswer, networkLea
 use Rattle.network.proofs.Claims as network
 use Rattle.blocks.specs.BlockText.{blockOf, blockTextAnswer, blockText}
 use Rattle.blocks.proofs.Claims as blocks
-use Rattle.grammar.specs.Rfc3986.{dot, HEXDIG, digit-string, dec-octet, IPv4address, h16, IPv6address}
+use Rattle.grammar.specs.Rfc3986.{dot, colon, HEXDIG, digit-string, dec-octet, IPv4address, h16, IPv6address}
 use Rattle.grammar.specs.StrictForm.{IPv4Text, IPv6Text, StrictForm, four, six, either-4, either-6, StrictCall, strict}
+use Rattle.grammar.specs.NormalForm.{NormalGroups, NormalForm}
 use Rattle.grammar.specs.LooseForm.{OCTDIG, loose-part, LooseForm, LooseCall, loose}
-use Rattle.grammar.specs.NetworkForm.{bytes-given, size-part, inferred-size, NetworkForm, NetworkCall, network, WrittenForm, WritingCall}
-use Rattle.grammar.specs.BlockForm.{BlockForm, BlockCall, block}
+use Rattle.grammar.specs.NetworkForm.{slash, bytes-given, size-part, inferred-size, NetworkForm, NetworkCall, network, WrittenForm, WritingCall}
+use Rattle.grammar.specs.BlockForm.{BlockForm, BlockCall, block, WrittenBlock}
 use Rattle.grammar.proofs.NumberLaws.{octet-reads, reads-octet, h16-reads, reads-h16, size-reads, reads-size, size-999, size-spelling}
 use Rattle.grammar.proofs.DottedLaws.{address-reads, address-octets, octets-address, one-spelling}
 use Rattle.grammar.proofs.GrammarLaws.{grammar-reads, reads-grammar}
 use Rattle.grammar.proofs.LengthLaws as lengths
 use Rattle.grammar.proofs.CallLaws.{answers-exactly, refuses-exactly}
 use Rattle.grammar.proofs.StrictFormLaws as strict-laws
+use Rattle.grammar.proofs.NormalFormLaws as normal-laws
 use Rattle.grammar.proofs.LoosePartLaws.{part-reads, reads-part}
 use Rattle.grammar.proofs.LooseFormLaws as loose-laws
 use Rattle.grammar.proofs.LimitLaws as limits
@@ -53,6 +58,7 @@ use Rattle.grammar.proofs.NetworkFormLaws as network-laws
 use Rattle.grammar.proofs.NetworkCallLaws as calls
 use Rattle.grammar.proofs.WrittenLaws as written-laws
 use Rattle.grammar.proofs.BlockFormLaws as block-laws
+use Rattle.grammar.proofs.ByteLaws as bytes
 
 -- ---- strict text
 
@@ -139,6 +145,20 @@ one-meaning f g t a b h k = let p = strict-laws.form-reads (either h) in let q =
     either (six h) = either-6 h
     either (either-4 h) = either-4 h
     either (either-6 h) = either-6 h
+
+-- ---- normal text
+
+-- "Writing gives the one normal text": of an address exactly one text keeps the rules of 01 and of RFC 5952 section 4, and it is the one that is
+-- written.
+pub normal-exactly : (a : Address) → IsAddress a → (t : List ℕ) → (normalText a ≡ t) ↔ NormalForm t a
+normal-exactly a is t = (λ e. subst (λ u. NormalForm u a) e (normal-laws.written-normal a is), normal-laws.normal-written)
+
+pub one-normal-text : (t u : List ℕ) (a : Address) → NormalForm t a → NormalForm u a → t ≡ u
+one-normal-text t u a h k = sym (normal-laws.normal-written h) ∙ normal-laws.normal-written k
+
+-- The same of eight groups.
+pub normal-groups-exactly : (gs : List ℕ) → length gs ≡ 8 → AllBelow 65536 gs → (t : List ℕ) → (normalGroups gs ≡ t) ↔ NormalGroups t gs
+normal-groups-exactly gs l small t = (λ e. subst (λ u. NormalGroups u gs) e (normal-laws.written-form gs l small), normal-laws.form-written)
 
 -- Normal text is strict text of its address, asked for by its family or by 0.
 pub normal-is-strict : (a : Address) → IsAddress a → StrictForm 0 (normalText a) a × StrictForm (family a) (normalText a) a
@@ -365,9 +385,26 @@ module _ (t : List ℕ) where
   pub block-reader : (r : BlockReading) → blockAnswer r ≡ blockTextAnswer t → BlockCall t (blockAnswer r)
   block-reader r promise = block-answers (blockAnswer r) .0 (sym promise)
 
--- What is written of a block value is of the form; and of IPv4 it is the only text that is.
+-- "Text is written from a block value in normal text": that of its address, a slash and the length.
+pub written-block-exactly : (b : Block) → IsAddress (b .address) → b .length ≤ 999 → (t : List ℕ) → (blockText b ≡ t) ↔ WrittenBlock (b .address) (b .length) t
+written-block-exactly b is l t = (λ e. subst (WrittenBlock (b .address) (b .length)) e (block-laws.written-block b is l), block-laws.block-written)
+
+-- What is written of a block value is of the form that is read; and of IPv4 it is the only text that is.
 pub written-is-block : (b : Block) → IsAddress (b .address) → b .length ≤ 999 → BlockForm (blockText b) (b .address) (b .length)
 written-is-block b is l = block-exactly (blockText b) b .0 (blocks.read-back b is l)
 
 pub one-IPv4-block-text : (t : List ℕ) (v n : ℕ) → BlockForm t (V4 v) n → blockText (record { address = V4 v; length = n }) ≡ t
 one-IPv4-block-text t v n = block-laws.block-spelling
+
+-- ---- bytes
+
+-- "A zero byte inside it is a wrong byte. Surrounding blanks are wrong bytes": so is every byte but hex digits, separators and the `x` of a mark.
+module _ (b : ℕ) (no-digit : digitOf b ≡ 16) (no-dot : eqb dot b ≡ false) where
+  pub loose-only-these : eqb 0x78 b ≡ false → eqb 0x58 b ≡ false → {t : List ℕ} {a : Address} → LooseForm t a → contains b t ≡ false
+  loose-only-these x X h = bytes.loose-lacks b no-digit no-dot x X h
+
+  pub network-only-these : eqb 0x78 b ≡ false → eqb 0x58 b ≡ false → eqb slash b ≡ false → {t ws : List ℕ} {size : ℕ} → NetworkForm t size ws → contains b t ≡ false
+  network-only-these x X s h = bytes.network-lacks b no-digit no-dot x X s h
+
+  pub block-only-these : eqb colon b ≡ false → eqb slash b ≡ false → {t : List ℕ} {a : Address} {n : ℕ} → BlockForm t a n → contains b t ≡ false
+  block-only-these c s h = bytes.block-lacks b no-digit no-dot c s h

@@ -102,7 +102,7 @@ module _ {base : ℕ} {D : ℕ → ℕ → Type 0} (same : Same base D) where
       let r = digits-all g in
       record { all = all-append base t (c ∷ []) (r .all) (single-all h); any = omega (arith, length-append t (c ∷ [])) }
 
-  digits-value : {t : List ℕ} {n : ℕ} → digit-string base D t n → numberOf base (map digitOf t) ≡ n
+  pub digits-value : {t : List ℕ} {n : ℕ} → digit-string base D t n → numberOf base (map digitOf t) ≡ n
   unfolding numberOf
   digits-value (one {c} {d} h) = omega (arith, same .value h .0, zero-mul base)
   digits-value (and-one {t} {n} {c} {d} g h) =

@@ -25,7 +25,7 @@ use Rattle.grammar.proofs.DigitStringLaws.{hex-value, is-hex, all-cons}
 
 -- ---- hex digits
 
-half-reads : {t bs : List ℕ} → half-bytes t bs → (allDigits 16 t ≡ true) × (halfBytes (map digitOf t) ≡ bs)
+pub half-reads : {t bs : List ℕ} → half-bytes t bs → (allDigits 16 t ≡ true) × (halfBytes (map digitOf t) ≡ bs)
 unfolding allDigits halfBytes
 half-reads no-digit-left = (refl, refl)
 half-reads (odd-digit {c} {x} h) = let v = hex-value h in (rw (v .0, lt-ltb x 16 (v .1)), ap (λ (d : ℕ). (d * 16) ∷ []) (v .0))
@@ -115,13 +115,6 @@ unfolding givenOf
 given-reads (after-0x l m r) = hex-reads l m r
 given-reads (after-0X l m r) = hex-reads l m r
 given-reads (or-decimal {t} {bs} p) = let w = parts-read p in subst (λ s. givenOf s ≡ some bs) (w .1) (parts-given (w .2) (w .3) (w .4))
-
--- no slash stands before the size
-pub given-lacks : {t bs : List ℕ} → bytes-given t bs → Lacks 47 t
-unfolding contains digitOf
-given-lacks (after-0x {t} l m r) = no-digit 16 47 t (lit≤ tt) refl (half-reads r .0)
-given-lacks (after-0X {t} l m r) = no-digit 16 47 t (lit≤ tt) refl (half-reads r .0)
-given-lacks (or-decimal p) = let w = parts-read p in subst (Lacks 47) (w .1) (parts-lack (w .2) 47 refl refl)
 
 pub reads-parts : (t bs : List ℕ) → partsOf t ≡ some bs → decimal-parts t bs
 reads-parts t bs e =

@@ -16,6 +16,7 @@ use Rattle.address.specs.Answers.{Answer, gives, noAddress, readAnswer}
 use Rattle.address.proofs.Claims.{gives-one, gives-refuses}
 use Rattle.octets.specs.BigEndian.{numberOf}
 use Rattle.octets.proofs.DigitLaws.{four-number}
+use Rattle.digits.specs.Numerals.{digitOf}
 use Rattle.digits.specs.Pieces.{splitOn, separated}
 use Rattle.digits.proofs.SeparatedLaws.{split-separated}
 use Rattle.dotted.specs.Dotted.{every}
@@ -28,14 +29,15 @@ use Rattle.grammar.specs.LooseForm.{LooseForm, a·b·c·d, a·b·c, a·b
 use Rattle.grammar.specs.StrictForm.{IPv4Text, of-octets}
 use Rattle.grammar.proofs.DottedLaws.{separated-split, address-reads}
 use Rattle.grammar.proofs.OptionLaws.{impossible, same-value, nothing-there}
-use Rattle.grammar.proofs.LoosePartLaws.{part-reads, reads-part, part-lacks}
+use Rattle.grammar.proofs.LoosePartLaws.{part-reads, reads-part}
+use Rattle.grammar.proofs.ByteLaws.{part-lacks}
 
 -- ---- the form is read
 
 pub loose-pieces : {ps : List (List ℕ)} {xs : List ℕ} → Reads loosePart ps xs → 0 < length ps → looseOf (separated 46 ps) ≡ addressAfter 0 (octetsFrom 4 xs)
-unfolding looseOf
+unfolding looseOf digitOf
 loose-pieces {ps} {xs} r any =
-    let split = split-separated 46 ps any (reads-each (λ p x e. part-lacks (reads-part p x e)) r) in
+    let split = split-separated 46 ps any (reads-each (λ p x e. part-lacks 46 refl refl refl (reads-part p x e)) r) in
     let read : every loosePart ps ≡ some xs = reads-so (λ p x e. e) r in
     rw (split, read)
 

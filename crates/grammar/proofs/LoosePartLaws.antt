@@ -93,12 +93,3 @@ reads-part (c ∷ d ∷ t) n e = go (eqb c 48) refl (eqb d 120) refl (eqb d 88) 
         let same = eqb-true c 48 f in
         rw same (after-0 (reads-digits same-8 (d ∷ t) n (sym (zero-number (d ∷ t) (omega arith)) ∙ ap (λ (b : ℕ). textNumber 8 (b ∷ d ∷ t)) (sym same) ∙ k)))
     go false f q g r h k = reads-decimal c (d ∷ t) n f k
-
--- no dot stands in a part
-pub part-lacks : {p : List ℕ} {n : ℕ} → loose-part p n → Lacks 46 p
-unfolding contains digitOf
-part-lacks (after-0x {t} g) = no-digit 16 46 t (lit≤ tt) refl (digits-all same-16 g .all)
-part-lacks (after-0X {t} g) = no-digit 16 46 t (lit≤ tt) refl (digits-all same-16 g .all)
-part-lacks (after-0 {t} g) = no-digit 8 46 t (lit≤ tt) refl (digits-all same-8 g .all)
-part-lacks (else-decimal {c} {t} l g) = no-digit 10 46 (c ∷ t) (lit≤ tt) refl (digits-all same-10 g .all)
-part-lacks only-0 = refl

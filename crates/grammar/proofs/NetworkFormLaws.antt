@@ -11,19 +11,20 @@ use lib.Dec.{leb, eqb}
 use lib.ListN.{length, take, drop, replicate}
 use Rattle.address.specs.declared.Refusal.the-variants.{Malformed, LengthTooLarge, NoRoom}
 use Rattle.address.specs.Answers.{Answer, answer, gives, refuses, refusal, writeRefusal, writeLeaves}
-use Rattle.digits.specs.Numerals.{partOf}
+use Rattle.digits.specs.Numerals.{digitOf, partOf}
 use Rattle.digits.specs.Pieces.{contains, indexOf}
-use Rattle.digits.proofs.SeparatedLaws.{seam}
+use Rattle.digits.proofs.SeparatedLaws.{Lacks, seam}
 use Rattle.given.specs.GivenBytes.{givenOf, zeroFilled, beforeSlash}
 use Rattle.given.proofs.GivenLaws.{given-octets}
 use Rattle.network_text.specs.NetworkText.{sizeBytes}
 use Rattle.network.specs.Network.{Network, classSize, inferredSize, completed, sized, networkOf, networkAnswer, networkLeaves}
 use Rattle.network.proofs.NetworkLaws.{answer-long, answer-stored}
-use Rattle.grammar.specs.NetworkForm.{from-first-byte, 240-up, 224-up, 192-up, 128-up, else-8, inferred-size, becomes, below-8, no-less, rounded-up, eighths, bytes-written, as-given, zeros-added, NetworkForm, with-size, without, NetworkCall, too-long, no-network, too-large, no-room, network}
+use Rattle.grammar.specs.NetworkForm.{bytes-given, from-first-byte, 240-up, 224-up, 192-up, 128-up, else-8, inferred-size, becomes, below-8, no-less, rounded-up, eighths, bytes-written, as-given, zeros-added, NetworkForm, with-size, without, NetworkCall, too-long, no-network, too-large, no-room, network}
 use Rattle.grammar.proofs.LengthLaws.{network-most}
 use Rattle.grammar.proofs.NumberLaws.{size-reads, reads-size, size-999}
 use Rattle.grammar.proofs.OptionLaws.{impossible, nothing-there}
-use Rattle.grammar.proofs.GivenLaws.{given-reads, given-lacks, reads-given}
+use Rattle.grammar.proofs.GivenLaws.{given-reads, reads-given}
+use Rattle.grammar.proofs.ByteLaws.{given-lacks}
 
 -- ---- the bytes written
 
@@ -107,12 +108,17 @@ completed-is : {size : ℕ} {bs ws : List ℕ} → bytes-written size bs ws → 
 unfolding completed
 completed-is {size} w = ap (meant size) (written-is w)
 
+-- no slash stands before the size
+no-slash : {t bs : List ℕ} → bytes-given t bs → Lacks 47 t
+unfolding digitOf
+no-slash g = given-lacks 47 refl refl refl refl g
+
 pub network-reads : {t ws : List ℕ} {size : ℕ} → NetworkForm t size ws → networkOf t ≡ some (record { size = size; bytes = ws })
 unfolding networkOf
 network-reads (with-size {t} {u} {bs} {ws} {size} g p w) =
-    let s = seam 47 t u (given-lacks g) in
+    let s = seam 47 t u (no-slash g) in
     rw (s .0, s .1, s .2, given-reads g, size-reads 999 p (size-999 p)) (ap some (completed-is w))
-network-reads (without {t} {bs} {ws} {size} g i w) = rw (given-lacks g, given-reads g, inferred-is i) (ap some (completed-is w))
+network-reads (without {t} {bs} {ws} {size} g i w) = rw (no-slash g, given-reads g, inferred-is i) (ap some (completed-is w))
 
 sized-says : (o : Option ℕ) (g : Option (List ℕ)) (n : Network) → sized o g ≡ some n → (size : ℕ) × (bs : List ℕ) × (o ≡ some size) × (g ≡ some bs) × (completed size bs ≡ n)
 sized-says none g n e = impossible e

@@ -6,17 +6,18 @@ use mathlib.Core.Option.{some, none}
 use Prim.Native.Nat.{ℕ, zero, suc, _+_, _-_, _*_, _/_, _%_, _≤_, _<_}
 use native.Mathlib.Decide.{decLe}
 use native.Mathlib.Omega.{arith}
-use borrow.Author.Tests.{le-leb, lt-ltb, le-ltb, ltb-false, ne-eqb, eqb-false}
-use lib.Dec.{ltb}
+use borrow.Author.Tests.{le-leb, lt-leb, lt-ltb, le-ltb, ltb-false, ne-eqb, eqb-false}
+use lib.Dec.{ltb, lit≤, lit<}
 use lib.ListN.{length}
 use Rattle.octets.specs.BigEndian.{digitsOf}
-use Rattle.digits.specs.Numerals.{allDigits, digitOf, textNumber, atMost, leadingZero, partOf, groupOf, digitByte, trimmed, numeral, decimal}
+use Rattle.digits.specs.Numerals.{allDigits, digitOf, textNumber, atMost, leadingZero, partOf, groupOf, numeral, decimal, lower}
 use Rattle.digits.proofs.NumeralLaws.{read-digits}
+use Rattle.digits.proofs.OneSpellingLaws.{numeral-spelling}
 use Rattle.digits.proofs.PieceLaws.{at-most-says}
 use Rattle.grammar.specs.Rfc3986.{DIGIT, x30-39, HEXDIG, digit-string, one, and-one, dec-octet, 0-9, 10-99, 100-199, 200-249, 250-255, h16, 1*4HEXDIG}
 use Rattle.grammar.specs.NetworkForm.{size-part, one-to-three, only-0}
 use Rattle.grammar.proofs.OptionLaws.{impossible}
-use Rattle.grammar.proofs.DigitStringLaws.{digit-value, byte, bounds, all-cons, is-digit, same-10, same-16, digits-all, digits-read, reads-digits, Short, one-digit, two-digits, three-digits, short}
+use Rattle.grammar.proofs.DigitStringLaws.{digit-value, byte, bounds, all-cons, is-digit, same-10, same-16, digits-all, digits-value, digits-read, reads-digits, Short, one-digit, two-digits, three-digits, short}
 
 -- ---- sizes
 
@@ -149,49 +150,19 @@ reads-h16 t x e = go (ltb 4 (length t)) refl e
 
 -- ---- one spelling
 
-three-digits-are : (n a b c : ℕ) → a < 10 → b < 10 → c < 10 → 100 * a + 10 * b + c ≡ n → digitsOf 10 3 n ≡ a ∷ b ∷ c ∷ []
-unfolding digitsOf
-three-digits-are n a b c h i j e =
-    let p : n / 10 / 10 % 10 ≡ a = omega arith in
-    let q : n / 10 % 10 ≡ b = omega arith in
-    let r : n % 10 ≡ c = omega arith in
-    rw (p, q, r)
-
-decimal-is : (n a b c : ℕ) → a < 10 → b < 10 → c < 10 → 100 * a + 10 * b + c ≡ n → decimal n ≡ map digitByte (trimmed (a ∷ b ∷ c ∷ []))
-unfolding numeral
-decimal-is n a b c h i j e = ap (λ ds. map digitByte (trimmed ds)) (three-digits-are n a b c h i j e)
-
-digit-is : {c d : ℕ} → DIGIT c d → digitByte d ≡ c
-unfolding digitByte
-digit-is {c} {d} h = let v = digit-value h in let b = bounds h in rw (lt-ltb d 10 (v .1)) (omega arith)
-
-two-stay : (b c : ℕ) → 0 < b → trimmed (0 ∷ b ∷ c ∷ []) ≡ b ∷ c ∷ []
-unfolding trimmed
-two-stay zero c h = absurd (omega arith)
-two-stay (suc b) c h = refl
-
-three-stay : (a b c : ℕ) → 0 < a → trimmed (a ∷ b ∷ c ∷ []) ≡ a ∷ b ∷ c ∷ []
-unfolding trimmed
-three-stay zero b c h = absurd (omega arith)
-three-stay (suc a) b c h = refl
-
-short-spelling : {c : ℕ} {t : List ℕ} {n : ℕ} → Short (c ∷ t) n → 49 ≤ c → decimal n ≡ c ∷ t
-unfolding trimmed
-short-spelling (one-digit {c} {z} d) h = decimal-is z 0 0 z (omega arith) (omega arith) (digit-value d .1) (omega arith) ∙ ap (λ (k : ℕ). k ∷ []) (digit-is d)
-short-spelling (two-digits {b} {c} {y} {z} d e) h =
-    let p = bounds d in
-    decimal-is (10 * y + z) 0 y z (omega arith) (digit-value d .1) (digit-value e .1) (omega arith)
-    ∙ ap (map digitByte) (two-stay y z (omega arith))
-    ∙ ap₂ (λ (k l : ℕ). k ∷ l ∷ []) (digit-is d) (digit-is e)
-short-spelling (three-digits {a} {b} {c} {x} {y} {z} d e f) h =
-    let p = bounds d in
-    decimal-is (100 * x + 10 * y + z) x y z (digit-value d .1) (digit-value e .1) (digit-value f .1) refl
-    ∙ ap (map digitByte) (three-stay x y z (omega arith))
-    ∙ rw (digit-is d, digit-is e, digit-is f)
+decimal-lower : (t : List ℕ) → allDigits 10 t ≡ true → map lower t ≡ t
+unfolding lower
+decimal-lower [] e = refl
+decimal-lower (c ∷ t) e =
+    let a = all-cons 10 c t e in
+    let b = bounds (is-digit c (a .0)) in
+    ap₂ (λ (d : ℕ) r. d ∷ r) (rw (lt-leb 65 c (omega arith))) (decimal-lower t (a .1))
 
 pub size-spelling : {t : List ℕ} {n : ℕ} → size-part t n → decimal n ≡ t
 unfolding numeral
-size-spelling (one-to-three h g l) = short-spelling (short g l) h
+size-spelling (one-to-three {c} {t} {n} h g l) =
+    let d = digits-all same-10 g in
+    ap decimal (sym (digits-value same-10 g)) ∙ numeral-spelling 10 3 (lit≤ tt) (lit< tt) (c ∷ t) d l (first-not-0 c t h) (decimal-lower (c ∷ t) (d .all))
 size-spelling only-0 = refl
 
 pub octet-spelling : {t : List ℕ} {x : ℕ} → dec-octet t x → decimal x ≡ t

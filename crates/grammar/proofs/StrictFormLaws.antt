@@ -4,7 +4,7 @@ use mathlib.Core.Bool.{Bool, true, false, false≢true}
 use mathlib.Core.List.{List, [], _∷_}
 use mathlib.Core.Logic.{_⊎_, inl, inr, ⊎-elim}
 use mathlib.Core.Option.{Option, some, none, Option·map}
-use Prim.Native.Nat.{ℕ, _≤_}
+use Prim.Native.Nat.{ℕ, _+_, _*_, _≤_}
 use native.Mathlib.Decide.{decLe}
 use native.Mathlib.Omega.{arith}
 use borrow.Author.Tests.{eqb-true}
@@ -27,7 +27,7 @@ use Rattle.text.proofs.FamilyLaws.{eight-colon}
 use Rattle.text.proofs.StrictLaws.{strict-unknown, strict-long, strict-read}
 use Rattle.normal.specs.Normal.{normalText}
 use Rattle.grammar.specs.Rfc3986.{IPv4address, four-octets, IPv6address}
-use Rattle.grammar.specs.StrictForm.{IPv4Text, of-octets, IPv6Text, of-groups, StrictForm, four, six, either-4, either-6, Asked, for-4, for-6, for-either, StrictCall, unknown, too-long, not-strict, strict}
+use Rattle.grammar.specs.StrictForm.{IPv4Text, of-octets, IPv6Text, of-groups, StrictForm, four, six, either-4, either-6, Known, for-4, for-6, for-either, StrictCall, unknown, too-long, not-strict, strict}
 use Rattle.grammar.proofs.OptionLaws.{impossible, nothing-there}
 use Rattle.grammar.proofs.DottedLaws.{address-reads, reads-address, dotted-spelt}
 use Rattle.grammar.proofs.EightLaws.{reads-eight, eight-length}
@@ -54,22 +54,36 @@ reads-means-4 t a e = go (dottedOf t) refl e
         let is : V4 v ≡ a = cc in
         subst (IPv4Text t) (ap V4 same ∙ is) (octets-mean h)
 
-means-6-reads : {t : List ℕ} {a : Address} → IPv6Text t a → Option·map groupsAddress (eightOf t) ≡ some a
+-- eight groups, one by one
+pub data EightList : List ℕ → Type 0 where
+  eight : (a b c d e f g h : ℕ) → EightList (a ∷ b ∷ c ∷ d ∷ e ∷ f ∷ g ∷ h ∷ [])
+
+pub eight-list : (gs : List ℕ) → length gs ≡ 8 → EightList gs
+eight-list [] l = absurd (omega arith)
+eight-list (a ∷ []) l = absurd (omega arith)
+eight-list (a ∷ b ∷ []) l = absurd (omega arith)
+eight-list (a ∷ b ∷ c ∷ []) l = absurd (omega arith)
+eight-list (a ∷ b ∷ c ∷ d ∷ []) l = absurd (omega arith)
+eight-list (a ∷ b ∷ c ∷ d ∷ e ∷ []) l = absurd (omega arith)
+eight-list (a ∷ b ∷ c ∷ d ∷ e ∷ f ∷ []) l = absurd (omega arith)
+eight-list (a ∷ b ∷ c ∷ d ∷ e ∷ f ∷ g ∷ []) l = absurd (omega arith)
+eight-list (a ∷ b ∷ c ∷ d ∷ e ∷ f ∷ g ∷ h ∷ []) l = eight a b c d e f g h
+eight-list (a ∷ b ∷ c ∷ d ∷ e ∷ f ∷ g ∷ h ∷ x ∷ gs) l = absurd (omega arith)
+
+-- their address
+pub eight-address : (a b c d e f g h : ℕ) → groupsAddress (a ∷ b ∷ c ∷ d ∷ e ∷ f ∷ g ∷ h ∷ [])
+    ≡ V6 (((a * 65536 + b) * 65536 + c) * 65536 + d) (((e * 65536 + f) * 65536 + g) * 65536 + h)
 unfolding groupsAddress
-means-6-reads (of-groups {t} {a} {b} {c} {d} {e} {f} {g} {h} i) = rw (grammar-reads i) (ap some (ap₂ V6 (four-number 65536 a b c d) (four-number 65536 e f g h)))
+eight-address a b c d e f g h = ap₂ V6 (four-number 65536 a b c d) (four-number 65536 e f g h)
+
+means-6-reads : {t : List ℕ} {a : Address} → IPv6Text t a → Option·map groupsAddress (eightOf t) ≡ some a
+means-6-reads (of-groups {t} {a} {b} {c} {d} {e} {f} {g} {h} i) = rw (grammar-reads i) (ap some (eight-address a b c d e f g h))
 
 groups-mean : {t : List ℕ} (gs : List ℕ) → length gs ≡ 8 → IPv6address t gs → IPv6Text t (groupsAddress gs)
-unfolding groupsAddress
-groups-mean [] l i = absurd (omega arith)
-groups-mean (a ∷ []) l i = absurd (omega arith)
-groups-mean (a ∷ b ∷ []) l i = absurd (omega arith)
-groups-mean (a ∷ b ∷ c ∷ []) l i = absurd (omega arith)
-groups-mean (a ∷ b ∷ c ∷ d ∷ []) l i = absurd (omega arith)
-groups-mean (a ∷ b ∷ c ∷ d ∷ e ∷ []) l i = absurd (omega arith)
-groups-mean (a ∷ b ∷ c ∷ d ∷ e ∷ f ∷ []) l i = absurd (omega arith)
-groups-mean (a ∷ b ∷ c ∷ d ∷ e ∷ f ∷ g ∷ []) l i = absurd (omega arith)
-groups-mean {t} (a ∷ b ∷ c ∷ d ∷ e ∷ f ∷ g ∷ h ∷ []) l i = subst (IPv6Text t) (sym (ap₂ V6 (four-number 65536 a b c d) (four-number 65536 e f g h))) (of-groups i)
-groups-mean (a ∷ b ∷ c ∷ d ∷ e ∷ f ∷ g ∷ h ∷ x ∷ gs) l i = absurd (omega arith)
+groups-mean {t} gs l = go (eight-list gs l)
+  where
+    go : {gs : List ℕ} → EightList gs → IPv6address t gs → IPv6Text t (groupsAddress gs)
+    go (eight a b c d e f g h) i = subst (IPv6Text t) (sym (eight-address a b c d e f g h)) (of-groups i)
 
 reads-means-6 : (t : List ℕ) (a : Address) → Option·map groupsAddress (eightOf t) ≡ some a → IPv6Text t a
 reads-means-6 t a e = go (eightOf t) refl e
@@ -113,55 +127,55 @@ module _ (t : List ℕ) (a : Address) where
 
 -- ---- the call
 
-asked-known : {f : ℕ} → Asked f → knownFamily f ≡ true
-asked-known for-4 = refl
-asked-known for-6 = refl
-asked-known for-either = refl
+family-known : {f : ℕ} → Known f → knownFamily f ≡ true
+family-known for-4 = refl
+family-known for-6 = refl
+family-known for-either = refl
 
-asked-or-not : (f : ℕ) → Asked f ⊎ (knownFamily f ≡ false)
-asked-or-not f = go (eqb f 4) refl (eqb f 6) refl (eqb f 0) refl
+known-or-not : (f : ℕ) → Known f ⊎ (knownFamily f ≡ false)
+known-or-not f = go (eqb f 4) refl (eqb f 6) refl (eqb f 0) refl
   where
-    at : (n : ℕ) → eqb f n ≡ true → Asked n → Asked f ⊎ (knownFamily f ≡ false)
-    at n e a = inl (subst Asked (sym (eqb-true f n e)) a)
+    at : (n : ℕ) → eqb f n ≡ true → Known n → Known f ⊎ (knownFamily f ≡ false)
+    at n e a = inl (subst Known (sym (eqb-true f n e)) a)
 
-    go : (p : Bool) → eqb f 4 ≡ p → (q : Bool) → eqb f 6 ≡ q → (r : Bool) → eqb f 0 ≡ r → Asked f ⊎ (knownFamily f ≡ false)
+    go : (p : Bool) → eqb f 4 ≡ p → (q : Bool) → eqb f 6 ≡ q → (r : Bool) → eqb f 0 ≡ r → Known f ⊎ (knownFamily f ≡ false)
     go true u q v r w = at 4 u for-4
     go false u true v r w = at 6 v for-6
     go false u false v true w = at 0 w for-either
     go false u false v false w = inr (rw (u, v, w))
 
-form-asked : {f : ℕ} {t : List ℕ} {a : Address} → StrictForm f t a → Asked f
-form-asked (four h) = for-4
-form-asked (six h) = for-6
-form-asked (either-4 h) = for-either
-form-asked (either-6 h) = for-either
+form-known : {f : ℕ} {t : List ℕ} {a : Address} → StrictForm f t a → Known f
+form-known (four h) = for-4
+form-known (six h) = for-6
+form-known (either-4 h) = for-either
+form-known (either-6 h) = for-either
 
-reads-asked : {f : ℕ} (t : List ℕ) (a : Address) → Asked f → strictOf f t ≡ some a → StrictForm f t a
-reads-asked t a for-4 e = reads-4 t a e
-reads-asked t a for-6 e = reads-6 t a e
-reads-asked t a for-either e = reads-0 t a e
+reads-known : {f : ℕ} (t : List ℕ) (a : Address) → Known f → strictOf f t ≡ some a → StrictForm f t a
+reads-known t a for-4 e = reads-4 t a e
+reads-known t a for-6 e = reads-6 t a e
+reads-known t a for-either e = reads-0 t a e
 
 module _ (f : ℕ) (t : List ℕ) where
-  answered : (o : Option Address) → Asked f → length t ≤ 64 → strictOf f t ≡ o → strictAnswer f t ≡ readingAnswer (asReading o)
-  answered o a l e = sym (strict-read f t (asked-known a) l) ∙ ap (λ p. readingAnswer (asReading p)) e
+  answered : (o : Option Address) → Known f → length t ≤ 64 → strictOf f t ≡ o → strictAnswer f t ≡ readingAnswer (asReading o)
+  answered o a l e = sym (strict-read f t (family-known a) l) ∙ ap (λ p. readingAnswer (asReading p)) e
 
   pub call-answers : {r : Answer Address} → StrictCall f t r → strictAnswer f t ≡ r
-  call-answers (unknown n) = ⊎-elim (λ a. absurd (n a)) (λ k. sym (strict-unknown f t k)) (asked-or-not f)
-  call-answers (too-long a l) = sym (strict-long f t (asked-known a) l)
-  call-answers (not-strict a l n) = answered none a l (nothing-there (strictOf f t) (λ b e. n b (reads-asked t b a e)))
-  call-answers (strict {a} h) = answered (some a) (form-asked h) (omega (arith, strict-most h)) (form-reads h)
+  call-answers (unknown n) = ⊎-elim (λ a. absurd (n a)) (λ k. sym (strict-unknown f t k)) (known-or-not f)
+  call-answers (too-long a l) = sym (strict-long f t (family-known a) l)
+  call-answers (not-strict a l n) = answered none a l (nothing-there (strictOf f t) (λ b e. n b (reads-known t b a e)))
+  call-answers (strict {a} h) = answered (some a) (form-known h) (omega (arith, strict-most h)) (form-reads h)
 
   pub answers-call : StrictCall f t (strictAnswer f t)
-  answers-call = ⊎-elim (λ a. go a) (λ k. subst (StrictCall f t) (strict-unknown f t k) (unknown (λ a. false≢true (sym k ∙ asked-known a)))) (asked-or-not f)
+  answers-call = ⊎-elim (λ a. go a) (λ k. subst (StrictCall f t) (strict-unknown f t k) (unknown (λ a. false≢true (sym k ∙ family-known a)))) (known-or-not f)
     where
-      read : Asked f → length t ≤ 64 → (o : Option Address) → strictOf f t ≡ o → StrictCall f t (strictAnswer f t)
+      read : Known f → length t ≤ 64 → (o : Option Address) → strictOf f t ≡ o → StrictCall f t (strictAnswer f t)
       read a l none e = subst (StrictCall f t) (sym (answered none a l e)) (not-strict a l (λ b h. impossible (sym e ∙ form-reads h)))
-      read a l (some b) e = subst (StrictCall f t) (sym (answered (some b) a l e)) (strict (reads-asked t b a e))
+      read a l (some b) e = subst (StrictCall f t) (sym (answered (some b) a l e)) (strict (reads-known t b a e))
 
-      go : Asked f → StrictCall f t (strictAnswer f t)
+      go : Known f → StrictCall f t (strictAnswer f t)
       go a = elim (decLe (length t) 64) [
         | yes l ↦ read a l (strictOf f t) refl
-        | no l ↦ subst (StrictCall f t) (strict-long f t (asked-known a) (omega arith)) (too-long a (omega arith))
+        | no l ↦ subst (StrictCall f t) (strict-long f t (family-known a) (omega arith)) (too-long a (omega arith))
       ]
 
   -- what a call that gives an address has found

@@ -1,4 +1,4 @@
--- Block text and the call that reads it, to be held beside 01, "Blocks and ranges" (RFC 4632 section 3.1, RFC 4291 section 2.3).
+-- Block text, the call that reads it and what is written, to be held beside 01, "Blocks and ranges" (RFC 4632 section 3.1, RFC 4291 section 2.3).
 -- Assumes nothing.
 use mathlib.Core.Path.{_≡_}
 use mathlib.Core.List.{List, _∷_, _++_}
@@ -10,6 +10,7 @@ use Rattle.address.specs.declared.Refusal.the-variants.{TextTooLong, Malformed,
 use Rattle.address.specs.Addresses.{width, number}
 use Rattle.address.specs.Answers.{Answer, gives, refuses, noBlock}
 use Rattle.grammar.specs.StrictForm.{StrictForm}
+use Rattle.grammar.specs.NormalForm.{NormalForm}
 use Rattle.grammar.specs.NetworkForm.{slash, size-part}
 
 -- "strict address text of either family, a slash, a length in the size's digits"
@@ -29,3 +30,9 @@ pub data BlockCall (t : List ℕ) : Answer Block → Type 0 where
       → BlockCall t (refuses noBlock BitsBeyondLength)
   block : {a : Address} {n : ℕ} → BlockForm t a n → n ≤ width a → number a % 2 ^ (width a - n) ≡ 0
       → BlockCall t (gives (record { address = a; length = n }))
+
+-- ---- writing
+
+-- "Text is written from a block value in normal text": that of the address, a slash and the length
+pub data WrittenBlock : Address → ℕ → List ℕ → Type 0 where
+  normal-prefix : {t u : List ℕ} {a : Address} {n : ℕ} → NormalForm t a → size-part u n → WrittenBlock a n (t ++ slash ∷ u)

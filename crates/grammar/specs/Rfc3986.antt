@@ -1,4 +1,5 @@
--- The grammar of strict text as published, to be held beside RFC 3986 section 3.2.2; DIGIT and HEXDIG are those of RFC 5234, appendix B.1.
+-- The grammar of strict text as published, to be held beside RFC 3986 section 3.2.2; DIGIT and HEXDIG are those of RFC 5234,
+-- appendix B.1, which has replaced the RFC 2234 that it cites.
 -- Each rule is a family under the rule's own name, each alternative is a constructor, and the line above it is the RFC's. `rule t v` says that
 -- the rule has the text t, and that t means v. A text is the list of its bytes. Nothing is split or searched here. Assumes nothing.
 use mathlib.Core.List.{List, [], _∷_, _++_}

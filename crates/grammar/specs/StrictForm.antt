@@ -30,19 +30,19 @@ pub data StrictForm : ℕ → List ℕ → Address → Type 0 where
   either-6 : {t : List ℕ} {a : Address} → IPv6Text t a → StrictForm 0 t a
 
 -- "4, 6 or 0"
-pub data Asked : ℕ → Type 0 where
-  for-4 : Asked 4
-  for-6 : Asked 6
-  for-either : Asked 0
+pub data Known : ℕ → Type 0 where
+  for-4 : Known 4
+  for-6 : Known 6
+  for-either : Known 0
 
 -- ---- the call
 
 -- what reading a text answers, by the family asked for: the address, or a refusal with an address field of 0.0.0.0
-pub data StrictCall (family : ℕ) (t : List ℕ) : Answer Address → Type 0 where
+pub data StrictCall (asked : ℕ) (t : List ℕ) : Answer Address → Type 0 where
   -- 9: "the family number asked for is not 4, 6 or 0"
-  unknown : (Asked family → ⊥) → StrictCall family t (refuses noAddress WrongFamily)
+  unknown : (Known asked → ⊥) → StrictCall asked t (refuses noAddress WrongFamily)
   -- 1: "the text is longer than 64 bytes"
-  too-long : Asked family → 64 < length t → StrictCall family t (refuses noAddress TextTooLong)
+  too-long : Known asked → 64 < length t → StrictCall asked t (refuses noAddress TextTooLong)
   -- 2: "the text is not of the form asked for, the empty text included"
-  not-strict : Asked family → length t ≤ 64 → ((a : Address) → StrictForm family t a → ⊥) → StrictCall family t (refuses noAddress Malformed)
-  strict : {a : Address} → StrictForm family t a → StrictCall family t (gives a)
+  not-strict : Known asked → length t ≤ 64 → ((a : Address) → StrictForm asked t a → ⊥) → StrictCall asked t (refuses noAddress Malformed)
+  strict : {a : Address} → StrictForm asked t a → StrictCall asked t (gives a)
