@@ -1,22 +1,20 @@
 -- What is claimed of the C interface. Assumes nothing.
 use mathlib.Core.Path.{_≡_, refl, sym, ap, subst, _∙_}
 use mathlib.Core.Logic.{_↔_}
-use mathlib.Core.Bool.{Bool, true, false, cond}
 use mathlib.Core.List.{List, [], _∷_, _++_}
-use mathlib.Core.Option.{Option·getD}
+use mathlib.Core.Option.{some, Option·getD}
 use Prim.Native.Nat.{ℕ, _+_, _*_, _/_, _≤_, _<_, max}
 use native.Mathlib.Omega.{arith}
-use borrow.Author.Tests.{ne-eqb}
-use lib.Dec.{eqb}
 use lib.ListN.{length, take, drop}
-use lib.Seq.{drop-at}
 use Rattle.cover.specs.Blocks.{Fewest, Range, rangeBlocks}
 use Rattle.address.specs.declared.Address.{Address}
 use Rattle.address.specs.declared.Block.{Block}
-use Rattle.address.specs.declared.Refusal.the-variants.{Malformed, NoClass}
+use Rattle.address.specs.declared.Refusal.{Refusal}
+use Rattle.address.specs.declared.Refusal.the-variants.{Malformed, NoRoom, NoClass}
 use Rattle.address.specs.Addresses.{IsAddress, family, width, number}
-use Rattle.address.specs.Answers.{Answer, refusal, answer, gives, refuses, writeRefusal, writeAnswer, writeLeaves}
-use Rattle.address.proofs.AnswerLaws.{write-good}
+use Rattle.address.specs.Answers.{Answer, gives, refuses, noAddress, noBlock, writeAnswer, writeLeaves}
+use Rattle.address.specs.Blocks.{blockReasons}
+use Rattle.address.proofs.AnswerLaws.{number-pos, write-short, write-fits}
 use Rattle.address.proofs.Claims.{written-held}
 use Rattle.octets.specs.BigEndian.{AllBelow, digitsOf, numberOf}
 use Rattle.octets.specs.Octets.{octets, octetsAnswer}
@@ -27,102 +25,128 @@ use Rattle.normal.specs.Normal.{normalText}
 use Rattle.normal.proofs.Claims.{read-back-answer}
 use Rattle.normal.proofs.Claims as normal
 use Rattle.given.specs.GivenBytes.{zeroFilled}
-use Rattle.network_text.specs.NetworkText.{sizeBytes, cleared}
-use Rattle.network.specs.Network.{networkOf, noNetwork, networkAnswer, networkLeaves}
+use Rattle.network_text.specs.NetworkText.{sizeBytes, cleared, networkText, writeReasons}
+use Rattle.network.specs.Network.{Network, networkOf, noNetwork, readReasons, networkAnswer, networkLeaves}
 use Rattle.network.proofs.Claims as network
 use Rattle.classes.specs.Classes.{splitAnswer, joinAnswer}
 use Rattle.classes.proofs.Claims as classes
-use Rattle.blocks.specs.BlockText.{blockTextAnswer}
+use Rattle.blocks.specs.BlockText.{blockTextAnswer, blockText}
 use Rattle.blocks.proofs.Claims as blocks
 use Rattle.records.specs.Records.{recordSize, recordsOf, readRecords}
 use Rattle.ranges.specs.Ranges.{rangeRecords, rangeAnswer, rangeLeaves}
 use Rattle.words.specs.Words.{wordsText, wordsReasons}
 use Rattle.c_answers.specs.CAnswers.{besides}
-use Rattle.interface.specs.Interface.{Outcome, outcome, whenGiven, refusedBy, andThen, writes, addressInto, addressWritten, networkInto, networkWrites, networkWritten, octetsSplit, blockInto, blockWrites, blockWritten, rangeTo, rangeInto, wordsInto}
-use Rattle.interface.proofs.InterfaceLaws.{when-given}
-use Rattle.interface.proofs.RoundTripLaws.{outcome-went-on, answer-went-on, split-four}
+use Rattle.interface.specs.Interface.{Outcome, outcome, whenGiven, writes, addressInto, addressWritten, networkInto, networkWrites, networkWritten, octetsSplit, blockInto, blockWrites, blockWritten, rangeTo, rangeInto, wordsInto}
+use Rattle.interface.specs.Buffers.{Wrote, Answered, Filled}
+use Rattle.interface.proofs.InterfaceLaws.{both, when-given, refused-on}
+use Rattle.interface.proofs.RoundTripLaws.{good-writes, outcome-went-on, number-went-on, answer-went-on, split-four}
 use Rattle.interface.proofs.RoundTripLaws as laws
+use Rattle.interface.proofs.BufferLaws.{judged, after, written, beside, beside-filled, into-filled, good-filled, text-held}
 
--- Demand 1, of an answer whose fields are `zeros` at zero and count the bytes written by `count`.
-pub record Careful {A : Type 0} (zeros : A) (count : A → ℕ) (old : List ℕ) (o : Outcome A) : Type 0 where
-  -- "A refusal returns its number with every other field zero, and no byte of a lent buffer differs from before."
-  pub refused : 0 < o .answers .number → (o .answers .fields ≡ zeros) × (o .leaves ≡ old)
-  -- "A good answer changes only the first bytes it counts; later bytes stay."
-  pub kept : drop (count (o .answers .fields)) (o .leaves) ≡ drop (count (o .answers .fields)) old
-
-module _ {A : Type 0} (zeros : A) (count : A → ℕ) (old : List ℕ) where
-  -- an answer by a refusal's number, and bytes at the start of the buffer
-  judged : (n : ℕ) (fields : A) (bytes : List ℕ) → count fields ≡ length bytes
-      → Careful zeros count old (outcome (answer zeros n fields) (cond (eqb n 0) (bytes ++ drop (length bytes) old) old))
-  judged n fields bytes e = record { refused = λ h. rw (ne-eqb n 0 (omega arith)) (refl, refl); kept = go (eqb n 0) }
-    where
-      go : (t : Bool) → let f = cond t fields zeros in drop (count f) (cond t (bytes ++ drop (length bytes) old) old) ≡ drop (count f) old
-      go true = rw e (drop-at bytes (drop (length bytes) old) (length bytes) refl)
-      go false = refl
-
-  -- a call on the value of another
-  after : {B : Type 0} (x : Answer B) (f : B → Outcome A) → ((b : B) → Careful zeros count old (f b)) → Careful zeros count old (andThen zeros old x f)
-  unfolding whenGiven
-  after x f each = go (eqb (x .number) 0)
-    where
-      go : (t : Bool) → Careful zeros count old (cond t (f (x .fields)) (outcome (refusedBy zeros (x .number)) old))
-      go true = each (x .fields)
-      go false = record { refused = λ h. (refl, refl); kept = refl }
+-- ---- demand 1
 
 module _ (old : List ℕ) where
-  abbrev Wrote : Outcome ℕ → Type 0
-  Wrote = Careful 0 (λ n. n) old
-
-  abbrev Answered : Outcome (ℕ × ℕ) → Type 0
-  Answered = Careful (0, 0) (λ r. r .1) old
-
-  written : (reasons : List (ℕ × Bool)) (bytes : List ℕ) → Wrote (writes reasons bytes old)
-  unfolding writeAnswer writeLeaves
-  written reasons bytes = judged 0 (λ n. n) old _ (length bytes) bytes refl
-
-  -- a number beside what a writer answers
-  beside : (n : ℕ) (reasons : List (ℕ × Bool)) (bytes : List ℕ) → Answered (outcome (besides n (writeAnswer reasons bytes old)) (writeLeaves reasons bytes old))
-  unfolding writeAnswer writeLeaves
-  beside n reasons bytes = go (writeRefusal reasons bytes old)
-    where
-      go : (m : ℕ) → Answered (outcome (besides n (answer 0 m (length bytes))) (cond (eqb m 0) (bytes ++ drop (length bytes) old) old))
-      go m = record { refused = λ h. rw (ne-eqb m 0 (omega arith)) (refl, refl); kept = pick (eqb m 0) }
-        where
-          pick : (t : Bool) → let f = cond {A = ℕ × ℕ} t (n, cond t (length bytes) 0) (0, 0) in drop (f .1) (cond t (bytes ++ drop (length bytes) old) old) ≡ drop (f .1) old
-          pick true = drop-at bytes (drop (length bytes) old) (length bytes) refl
-          pick false = refl
-
-  pub address-into : (a : Answer Address) → Wrote (addressInto a old)
+  pub address-into : (a : Answer Address) → Wrote old (addressInto a old)
   unfolding addressInto
-  address-into a = after 0 (λ n. n) old a _ (λ x. written _ _)
+  address-into a = after 0 (λ n. n) old a _ (λ x. written old _ _)
 
-  pub address-written : (bytes : List ℕ) → Wrote (addressWritten bytes old)
+  pub address-written : (bytes : List ℕ) → Wrote old (addressWritten bytes old)
   unfolding addressWritten
-  address-written bytes = after 0 (λ n. n) old _ _ (λ a. written _ _)
+  address-written bytes = after 0 (λ n. n) old _ _ (λ a. written old _ _)
 
-  pub network-into : (t : List ℕ) → Answered (networkInto t old)
+  pub network-into : (t : List ℕ) → Answered old (networkInto t old)
   unfolding networkInto networkAnswer networkLeaves writeLeaves
   network-into t = judged (0, 0) (λ r. r .1) old _ _ (Option·getD (networkOf t) noNetwork .bytes) refl
 
-  pub network-written : (bytes : List ℕ) (size : ℕ) → Wrote (networkWritten bytes size old)
+  pub network-written : (bytes : List ℕ) (size : ℕ) → Wrote old (networkWritten bytes size old)
   unfolding networkWritten
-  network-written bytes size = after 0 (λ n. n) old _ _ (λ a. written _ _)
+  network-written bytes size = after 0 (λ n. n) old _ _ (λ a. written old _ _)
 
-  pub block-into : (t : List ℕ) → Answered (blockInto t old)
+  pub block-into : (t : List ℕ) → Answered old (blockInto t old)
   unfolding blockInto
-  block-into t = after (0, 0) (λ r. r .1) old _ _ (λ b. beside (b .length) [] (octets (b .address)))
+  block-into t = after (0, 0) (λ r. r .1) old _ _ (λ b. beside old (b .length) [] (octets (b .address)))
 
-  pub block-written : (bytes : List ℕ) (n : ℕ) → Wrote (blockWritten bytes n old)
+  pub block-written : (bytes : List ℕ) (n : ℕ) → Wrote old (blockWritten bytes n old)
   unfolding blockWritten
-  block-written bytes n = after 0 (λ n. n) old _ _ (λ a. written _ _)
+  block-written bytes n = after 0 (λ n. n) old _ _ (λ a. written old _ _)
 
-  pub range-into : (first last : List ℕ) → Answered (rangeInto first last old)
+  pub range-into : (first last : List ℕ) → Answered old (rangeInto first last old)
   unfolding rangeInto rangeTo rangeAnswer rangeLeaves writeLeaves
   range-into first last = after (0, 0) (λ r. r .1) old _ _ (λ a. after (0, 0) (λ r. r .1) old _ _ (λ b. judged (0, 0) (λ r. r .1) old _ _ (rangeRecords a b) refl))
 
-  pub words-into : (n : ℕ) → Wrote (wordsInto n old)
+  pub words-into : (n : ℕ) → Wrote old (wordsInto n old)
   unfolding wordsInto
-  words-into n = written _ _
+  words-into n = written old _ _
+
+-- ---- calls on the value of another
+
+-- A refusal of what a call stands on is the call's own, with the same number.
+pub refusal-stands : (e : Refusal) (old : List ℕ)
+    → ((x : Answer Address) → x ≡ refuses noAddress e → addressInto x old ≡ outcome (refuses 0 e) old)
+    × ((t : List ℕ) → blockTextAnswer t ≡ refuses noBlock e → blockInto t old ≡ outcome (refuses (0, 0) e) old)
+    × ((t : List ℕ) → networkAnswer t old ≡ refuses (0, 0) e → networkInto t old ≡ outcome (refuses (0, 0) e) old)
+    × ((bytes : List ℕ) (a : Address) → octetsAnswer bytes ≡ gives a → splitAnswer a ≡ refuses (0, 0) e → octetsSplit bytes ≡ refuses (0, 0) e)
+unfolding addressInto blockInto networkInto octetsSplit
+refusal-stands e old = (
+  λ x h. refused-on 0 old _ x noAddress e h,
+  λ t h. refused-on (0, 0) old _ (blockTextAnswer t) noBlock e h,
+  λ t h. both h (network-into old t .refused (subst (λ (r : Answer (ℕ × ℕ)). 0 < r .number) (sym h) (number-pos e)) .1),
+  λ bytes a h k. sym (when-given _ _ (octetsAnswer bytes) a (sym h)) ∙ k,
+)
+
+-- Where it stands on a value, it answers and leaves what the call inside it answers and leaves: with an address or a block that is read,
+module _ (old : List ℕ) where
+  pub address-put : (x : Answer Address) (a : Address) → x ≡ gives a → addressInto x old ≡ outcome (writeAnswer [] (octets a) old) (writeLeaves [] (octets a) old)
+  unfolding addressInto
+  address-put x a is = sym (when-given _ _ x a (sym is))
+
+  pub block-put : (t : List ℕ) (b : Block) → blockTextAnswer t ≡ gives b
+      → let bytes = octets (b .address) in blockInto t old ≡ outcome (besides (b .length) (writeAnswer [] bytes old)) (writeLeaves [] bytes old)
+  unfolding blockInto
+  block-put t b is = sym (when-given _ _ (blockTextAnswer t) b (sym is))
+
+  -- so that it is refusal 3, "the lent buffer is shorter than the bytes the answer needs", or good;
+  pub address-room : (x : Answer Address) (a : Address) → x ≡ gives a
+      → (length old < width a / 8 → addressInto x old ≡ outcome (refuses 0 NoRoom) old)
+      × (width a / 8 ≤ length old → addressInto x old .answers ≡ gives (width a / 8))
+  address-room x a is =
+      let short = write-short (octets a) old (width a / 8) (octets-length a) in
+      let fits = write-fits (octets a) old (width a / 8) (octets-length a) in (
+        λ h. address-put x a is ∙ both (sym (short h .0)) (sym (short h .1)),
+        λ h. ap (λ o. o .answers) (address-put x a is) ∙ sym (fits h _ refl .0),
+      )
+
+  pub block-room : (t : List ℕ) (b : Block) → blockTextAnswer t ≡ gives b
+      → (length old < width (b .address) / 8 → blockInto t old ≡ outcome (refuses (0, 0) NoRoom) old)
+      × (width (b .address) / 8 ≤ length old → blockInto t old .answers ≡ gives (b .length, width (b .address) / 8))
+  block-room t b is =
+      let a = b .address in
+      let short = write-short (octets a) old (width a / 8) (octets-length a) in
+      let fits = write-fits (octets a) old (width a / 8) (octets-length a) in (
+        λ h. block-put t b is ∙ both (ap (besides (b .length)) (sym (short h .0))) (sym (short h .1)),
+        λ h. ap (λ o. o .answers) (block-put t b is) ∙ ap (besides (b .length)) (sym (fits h _ refl .0)),
+      )
+
+-- and with octets that are an address.
+module _ (bytes old : List ℕ) (a : Address) (is : octetsAnswer bytes ≡ gives a) where
+  pub address-taken : addressWritten bytes old ≡ outcome (writeAnswer [] (normalText a) old) (writeLeaves [] (normalText a) old)
+  unfolding addressWritten
+  address-taken = sym (when-given _ _ (octetsAnswer bytes) a (sym is))
+
+  pub network-taken : (size : ℕ)
+      → let text = networkText (number a) size in networkWritten bytes size old ≡ outcome (writeAnswer (writeReasons a size) text old) (writeLeaves (writeReasons a size) text old)
+  unfolding networkWritten
+  network-taken size = sym (when-given _ _ (octetsAnswer bytes) a (sym is))
+
+  pub block-taken : (len : ℕ)
+      → let b : Block = record { address = a; length = len } in
+      blockWritten bytes len old ≡ outcome (writeAnswer (blockReasons b) (blockText b) old) (writeLeaves (blockReasons b) (blockText b) old)
+  unfolding blockWritten
+  block-taken len = sym (when-given _ _ (octetsAnswer bytes) a (sym is))
+
+  pub range-taken : (last : List ℕ) (b : Address) → octetsAnswer last ≡ gives b → rangeInto bytes last old ≡ outcome (rangeAnswer a b old) (rangeLeaves a b old)
+  unfolding rangeInto rangeTo
+  range-taken last b is-b = sym (when-given _ _ (octetsAnswer bytes) a (sym is)) ∙ sym (when-given _ _ (octetsAnswer last) b (sym is-b))
 
 -- Demand 2 through the interface: the octets of an address are written as its normal text, and that text is read back to the octets, asked
 -- for either family or for its own.
@@ -135,31 +159,6 @@ read-back a h old = let back = read-back-answer a h in (rw (octets-read-back a h
 
 -- ---- the caller's buffers
 
--- A good call, of what the caller holds: it answers these fields; as many bytes as these, at the start of its buffer, are these; and "later
--- bytes stay".
-pub record Filled {A : Type 0} (fields : A) (bytes old : List ℕ) (o : Outcome A) : Type 0 where
-  pub answered : o .answers ≡ gives fields
-  pub held : take (length bytes) (o .leaves) ≡ bytes
-  pub kept : drop (length bytes) (o .leaves) ≡ drop (length bytes) old
-
--- bytes with room for them
-module _ (bytes old : List ℕ) (room : length bytes ≤ length old) where
-  writes-filled : Filled (length bytes) bytes old (writes [] bytes old)
-  unfolding refusal
-  writes-filled =
-      let good = write-good [] bytes old refl room in
-      let w = written-held [] bytes old (length bytes) good in
-      record { answered = good; held = w .0; kept = w .3 }
-
-  -- with a number beside them
-  beside-filled : (n : ℕ) → Filled (n, length bytes) bytes old (outcome (besides n (writeAnswer [] bytes old)) (writeLeaves [] bytes old))
-  beside-filled n = let w = writes-filled in record { answered = ap (besides n) (w .answered); held = w .held; kept = w .kept }
-
-  -- and an address that is given
-  into-filled : (x : Answer Address) (a : Address) → x ≡ gives a → octets a ≡ bytes → Filled (length bytes) bytes old (addressInto x old)
-  unfolding addressInto whenGiven
-  into-filled x a e f = rw (e, f) writes-filled
-
 -- "An address put into a lent buffer takes 4 or 16 bytes": those that the caller holds after a good call are the octets of the address that
 -- was read or joined.
 pub address-held : (x : Answer Address) (old : List ℕ) (m : ℕ) → addressInto x old .answers ≡ gives m
@@ -170,6 +169,46 @@ address-held x old m good =
     let (is, on, wrote) = outcome-went-on 0 old x (λ a. writes [] (octets a) old) m good in
     let w = written-held [] (octets a) old m wrote in
     (is, ap (λ o. take m (o .leaves)) on ∙ w .0, w .1 ∙ octets-length a)
+
+-- After a good call the caller holds, of every text that is read as a network, the size and the bytes that the text means;
+pub network-held : (t old : List ℕ) → networkInto t old .answers .number ≡ 0
+    → (n : Network) × (networkOf t ≡ some n) × Filled (n .size, length (n .bytes)) (n .bytes) old (networkInto t old)
+unfolding networkInto networkLeaves
+network-held t old good =
+    let (is, answered, wrote) = laws.network-good t old good in
+    (Option·getD (networkOf t) noNetwork, is, good-filled _ (readReasons t (networkOf t)) _ old wrote _ answered)
+
+-- of every text that is read as a block, the length and the octets of its address;
+pub block-held : (t old : List ℕ) → blockInto t old .answers .number ≡ 0
+    → (b : Block) × (blockTextAnswer t ≡ gives b) × Filled (b .length, width (b .address) / 8) (octets (b .address)) old (blockInto t old)
+unfolding blockInto
+block-held t old good =
+    let b = blockTextAnswer t .fields in
+    let bytes = octets (b .address) in
+    let put : Block → Outcome (ℕ × ℕ) = λ b. outcome (besides (b .length) (writeAnswer [] (octets (b .address)) old)) (writeLeaves [] (octets (b .address)) old) in
+    let (is, on, wrote) = number-went-on (0, 0) old (blockTextAnswer t) put good in
+    let answered = ap (besides (b .length)) (good-writes [] bytes old wrote) ∙ ap (λ (m : ℕ). gives (b .length, m)) (octets-length (b .address)) in
+    (b, is, subst (Filled _ bytes old) (sym on) (good-filled _ [] bytes old wrote _ answered))
+
+-- and of octets that are written as a text, the text of their address: all of it, as many bytes as the call says.
+module _ (bytes old : List ℕ) where
+  pub address-written-held : addressWritten bytes old .answers .number ≡ 0
+      → (a : Address) × (octetsAnswer bytes ≡ gives a) × Filled (length (normalText a)) (normalText a) old (addressWritten bytes old)
+  unfolding addressWritten
+  address-written-held = text-held old (octetsAnswer bytes) (λ a. []) normalText
+
+  pub network-written-held : (size : ℕ) → networkWritten bytes size old .answers .number ≡ 0
+      → (a : Address) × (octetsAnswer bytes ≡ gives a) × (let text = networkText (number a) size in Filled (length text) text old (networkWritten bytes size old))
+  unfolding networkWritten
+  network-written-held size = text-held old (octetsAnswer bytes) (λ a. writeReasons a size) (λ a. networkText (number a) size)
+
+  pub block-written-held : (len : ℕ) → blockWritten bytes len old .answers .number ≡ 0
+      → (a : Address) × (octetsAnswer bytes ≡ gives a)
+      × (let text = blockText (record { address = a; length = len }) in Filled (length text) text old (blockWritten bytes len old))
+  unfolding blockWritten
+  block-written-held len =
+      let block : Address → Block = λ a. record { address = a; length = len } in
+      text-held old (octetsAnswer bytes) (λ a. blockReasons (block a)) (λ a. blockText (block a))
 
 -- Demand 2: octets are written as a text, and that text, the bytes that the caller then holds, is read as the same octets, asked for either
 -- family or for that of the address.
@@ -201,12 +240,15 @@ network-back bytes size old n good buf room =
     let (is, on, wrote) = outcome-went-on 0 old (octetsAnswer bytes) (λ a. networkWrites a size old) n good in
     let back = network.written-read-back a size old n wrote buf room in (
       ap (λ o. networkAnswer (take n (o .leaves)) buf) on ∙ back .0,
-      ap (λ o. zeroFilled 4 (take count (networkLeaves (take n (o .leaves)) buf))) on ∙ back .1 ∙ ap (λ (v : ℕ). digitsOf 256 4 (cleared 32 size v)) (number-is bytes a is .1),
+      ap (λ o. zeroFilled 4 (take count (networkLeaves (take n (o .leaves)) buf))) on
+          ∙ back .1
+          ∙ ap (λ (v : ℕ). digitsOf 256 4 (cleared 32 size v)) (number-is bytes a is .1),
       ap (λ o. drop count (networkLeaves (take n (o .leaves)) buf)) on ∙ back .2,
     )
 
 -- Demand 2 for blocks: octets and a length are written as a text, and that text is read as the same length and octets.
-pub block-back : (bytes : List ℕ) (len : ℕ) (old : List ℕ) (n : ℕ) → AllBelow 256 bytes → blockWritten bytes len old .answers ≡ gives n → (buf : List ℕ) → length bytes ≤ length buf
+pub block-back : (bytes : List ℕ) (len : ℕ) (old : List ℕ) (n : ℕ) → AllBelow 256 bytes → blockWritten bytes len old .answers ≡ gives n
+    → (buf : List ℕ) → length bytes ≤ length buf
     → Filled (len, length bytes) bytes buf (blockInto (take n (blockWritten bytes len old .leaves)) buf)
 unfolding blockWritten blockInto whenGiven
 block-back bytes len old n small good buf room =
@@ -226,10 +268,12 @@ join-of-split bytes n h small e buf room =
     let a = octetsAnswer bytes .fields in
     let (is, splits) = answer-went-on (0, 0) (octetsAnswer bytes) splitAnswer (n, h) e in
     let l = split-four bytes a n h is splits in
-    (l, subst (λ k. Filled k bytes buf (addressInto (joinAnswer n h) buf)) l (into-filled bytes buf (omega arith) _ a (classes.join-of-split a n h splits) (octets-of-read bytes a small is)))
+    let held = into-filled bytes buf (omega arith) _ a (classes.join-of-split a n h splits) (octets-of-read bytes a small is) in
+    (l, subst (λ k. Filled k bytes buf (addressInto (joinAnswer n h) buf)) l held)
 
 -- Demand 2: "every pair that joins splits back to itself", of the octets that the caller holds.
-pub split-of-join : (n h : ℕ) (buf : List ℕ) (m : ℕ) → addressInto (joinAnswer n h) buf .answers ≡ gives m → octetsSplit (take m (addressInto (joinAnswer n h) buf .leaves)) ≡ gives (n, h)
+pub split-of-join : (n h : ℕ) (buf : List ℕ) (m : ℕ) → addressInto (joinAnswer n h) buf .answers ≡ gives m
+    → octetsSplit (take m (addressInto (joinAnswer n h) buf .leaves)) ≡ gives (n, h)
 unfolding octetsSplit whenGiven
 split-of-join n h buf m good =
     let a = joinAnswer n h .fields in
@@ -273,7 +317,8 @@ range-exactly first last old a b is-a is-b = rw (is-a, is-b) (laws.range-good-oc
 -- ---- words
 
 -- The words that the caller holds are those of the number.
-pub words-held : (k : ℕ) (old : List ℕ) (n : ℕ) → wordsInto k old .answers ≡ gives n → (take n (wordsInto k old .leaves) ≡ wordsText k) × (n ≡ length (wordsText k)) × (drop n (wordsInto k old .leaves) ≡ drop n old)
+pub words-held : (k : ℕ) (old : List ℕ) (n : ℕ) → wordsInto k old .answers ≡ gives n
+    → (take n (wordsInto k old .leaves) ≡ wordsText k) × (n ≡ length (wordsText k)) × (drop n (wordsInto k old .leaves) ≡ drop n old)
 unfolding wordsInto
 words-held k old n good = let w = written-held (wordsReasons k) (wordsText k) old n good in (w .0, w .1, w .3)
 

@@ -21,7 +21,7 @@ use Rattle.network_text.specs.NetworkText.{networkText}
 use Rattle.text.specs.Strict.{knownFamily, strictAnswer}
 use Rattle.text.proofs.StrictLaws.{strict-unknown}
 use Rattle.c_answers.specs.CAnswers.{besides}
-use Rattle.interface.specs.Interface.{Outcome, outcome, whenGiven, addressInto, rangeTo, writes, networkWrites, blockWrites}
+use Rattle.interface.specs.Interface.{Outcome, outcome, whenGiven, refusedBy, andThen, addressInto, rangeTo, writes, networkWrites, blockWrites}
 
 -- equal answers and equal buffers
 pub both : {A : Type 0} {a b : Answer A} {l m : List ℕ} → a ≡ b → l ≡ m → outcome a l ≡ outcome b m
@@ -42,6 +42,11 @@ module _ {A B : Type 0} (refused : ℕ → B) (f : A → B) (x : Answer A) where
   pub when-refused : (z : A) (e : Refusal) → refuses z e ≡ x → refused (refusalNumber e) ≡ whenGiven refused x f
   unfolding whenGiven
   when-refused z e h = rw (← h, nonzero e)
+
+-- with its own number, and the buffer as it was
+pub refused-on : {A B : Type 0} (zeros : B) (old : List ℕ) (f : A → Outcome B) (x : Answer A) (z : A) (e : Refusal) → x ≡ refuses z e
+    → andThen zeros old x f ≡ outcome (refuses zeros e) old
+refused-on zeros old f x z e h = sym (when-refused (λ n. outcome (refusedBy zeros n) old) f x z e (sym h))
 
 -- what a match tells of a reading, where the reading answers x
 module _ {B : Type 0} (refused : ℕ → B) (f : Address → B) (x : Answer Address) (r : Reading) (h : readingAnswer r ≡ x) where
@@ -89,7 +94,9 @@ size-cut a size n old e =
 
 -- and a length
 pub length-cut : (a : Address) (length n : ℕ) (old : List ℕ) → n ≡ min length 255 → blockWrites a n old ≡ blockWrites a length old
-length-cut a length n old e = cut (λ m. blockWrites a m old) length n e (λ h. rw (lt-ltb (width a) 255 (omega (arith, width-most a)), lt-ltb (width a) length (omega (arith, width-most a))) (large-length _ _ (blockText (blockOf 255)) (blockText (blockOf length)) old))
+length-cut a length n old e =
+    cut (λ m. blockWrites a m old) length n e
+    (λ h. rw (lt-ltb (width a) 255 (omega (arith, width-most a)), lt-ltb (width a) length (omega (arith, width-most a))) (large-length _ _ (blockText (blockOf 255)) (blockText (blockOf length)) old))
   where
     blockOf : ℕ → Block
     blockOf m = record { address = a; length = m }

@@ -1,2 +1,3 @@
--- Interface: what each call of the C interface answers and leaves.
+-- Interface: what each call of the C interface answers and leaves. Buffers: what is asked of that.
 pub mod Interface
+pub mod Buffers

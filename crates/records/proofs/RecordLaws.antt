@@ -1,5 +1,6 @@
 -- A record as the code puts it and reads it, and records read back. Assumes nothing.
 use mathlib.Core.Path.{_≡_, refl, sym, ap, ap₂, _∙_}
+use mathlib.Core.Logic.{_⊎_, inl, inr}
 use mathlib.Core.List.{List, [], _∷_, _++_, append-assoc, append-nil}
 use mathlib.Core.Option.{some, none}
 use Prim.Native.Nat.{ℕ, suc, _+_, _-_, _*_, _/_, _^_, _≤_, _<_}
@@ -17,7 +18,7 @@ use Rattle.address.specs.declared.Address.the-variants.{V4, V6}
 use Rattle.address.specs.declared.Block.{Block}
 use Rattle.address.specs.declared.Refusal.{Refusal}
 use Rattle.address.specs.declared.Refusal.the-variants.{NoRoom, Malformed}
-use Rattle.address.specs.Addresses.{IsAddress, width, number}
+use Rattle.address.specs.Addresses.{IsAddress, family, width, number}
 use Rattle.address.specs.Answers.{Answer, gives, refuses, noAddress, noBlock, readAnswer, writeAnswer, writeLeaves}
 use Rattle.address.specs.Blocks.{numbered, blockReasons, blockRefusal}
 use Rattle.address.proofs.AnswerLaws.{number-pos, write-short, write-fits}
@@ -32,9 +33,20 @@ use Rattle.records.specs.Records.{recordSize, recordOf, blockRecord, par
 
 -- ---- one record
 
+pub layout : (b : Block) → blockRecord b ≡ octets (b .address) ++ b .length ∷ []
+unfolding recordOf octets
+layout b = refl
+
 pub record-length : (W : ℕ) (b : cover.Block) → length (recordOf W b) ≡ recordSize W
 unfolding recordOf
 record-length W b = length-append (digitsOf 256 (W / 8) (b .address)) (b .length ∷ []) ∙ ap (λ (n : ℕ). n + 1) (digits-length 256 (W / 8) (b .address))
+
+pub value-length : (b : Block) → ((family (b .address) ≡ 4) × (length (blockRecord b) ≡ 5)) ⊎ ((family (b .address) ≡ 6) × (length (blockRecord b) ≡ 17))
+value-length b = go (b .address) (record-length (width (b .address)) (numbered b))
+  where
+    go : (a : Address) → length (blockRecord b) ≡ recordSize (width a) → ((family a ≡ 4) × (length (blockRecord b) ≡ 5)) ⊎ ((family a ≡ 6) × (length (blockRecord b) ≡ 17))
+    go (V4 v) e = inl (refl, e)
+    go (V6 hi lo) e = inr (refl, e)
 
 -- ---- parts, put one behind the other
 

@@ -1,16 +1,19 @@
 -- What is claimed of the refusals in words. Assumes nothing.
-use mathlib.Core.Path.{_≡_, refl}
+use mathlib.Core.Path.{_≡_, refl, sym, ap, subst, _∙_}
+use mathlib.Core.Logic.{_↔_}
 use mathlib.Core.Bool.{Bool, true, false, cond, _&&_, false≢true}
 use mathlib.Core.List.{List, [], _∷_}
 use mathlib.Core.Option.{some, Option·getD}
-use Prim.Native.Nat.{ℕ}
+use Prim.Native.Nat.{ℕ, _≤_}
 use lib.Dec.{leb, eqb}
 use lib.ListN.{length}
 use Rattle.address.specs.declared.Refusal.{Refusal}
 use Rattle.address.specs.declared.Refusal.the-variants.{TextTooLong, Malformed, NoRoom, LengthTooLarge, BitsBeyondLength, NoClass, HostTooLarge, FirstAboveLast, WrongFamily}
 use Rattle.address.specs.Answers.{refusalNumber, missing}
+use Rattle.address.proofs.Claims.{one-number}
 use Rattle.digits.specs.Numerals.{within}
 use Rattle.words.specs.Words.{table, wordsIn, refusalWords, wordsText}
+use Rattle.words.proofs.WordsLaws as laws
 
 -- Every refusal has its words.
 pub every-refusal : (e : Refusal) → missing (refusalWords (refusalNumber e)) ≡ false
@@ -24,6 +27,20 @@ every-refusal NoClass = refl
 every-refusal HostTooLarge = refl
 every-refusal FirstAboveLast = refl
 every-refusal WrongFamily = refl
+
+-- A number has words exactly if it is 1 to 9, which are the numbers of the refusals; 0, that of a good answer, has none.
+pub words-exactly : (n : ℕ) → (missing (refusalWords n) ≡ false) ↔ ((1 ≤ n) × (n ≤ 9))
+words-exactly = laws.words-1-to-9
+
+pub words-of-refusals : (n : ℕ) → (missing (refusalWords n) ≡ false) ↔ ((e : Refusal) × (refusalNumber e ≡ n))
+words-of-refusals n = (
+  λ h. let k = words-exactly n .0 h in laws.refusal-of n (k .0) (k .1),
+  λ r. subst (λ (k : ℕ). missing (refusalWords k) ≡ false) (r .1) (every-refusal (r .0)),
+)
+
+-- Two refusals with the same words are one.
+pub own-words : (e f : Refusal) → wordsText (refusalNumber e) ≡ wordsText (refusalNumber f) → e ≡ f
+own-words e f h = one-number e f (sym (laws.number-back e) ∙ ap laws.numberBy h ∙ laws.number-back f)
 
 -- every byte is printable ASCII
 unfoldable pub printable : List ℕ → Bool

@@ -1,12 +1,80 @@
--- What writing words answers, for a number of the table and for any other. Assumes nothing.
-use mathlib.Core.Path.{_≡_, refl}
-use mathlib.Core.List.{List, []}
+-- What writing words answers, for a number of the table and for any other; whose words are whose. Assumes nothing.
+use mathlib.Core.Path.{_≡_, refl, sym}
+use mathlib.Core.Logic.{_↔_}
+use mathlib.Core.Bool.{Bool, true, false, cond, _&&_, and-eq-true-iff, false≢true}
+use mathlib.Core.List.{List, [], _∷_}
 use mathlib.Core.Option.{some, none}
-use Prim.Native.Nat.{ℕ}
-use borrow.Author.Tests.{ne-eqb}
-use Rattle.address.specs.Answers.{Answer, refuses, writeAnswer, writeLeaves}
-use Rattle.address.specs.declared.Refusal.the-variants.{Malformed}
-use Rattle.words.specs.Words.{refusalWords, wordsText, wordsReasons}
+use Prim.Native.Nat.{ℕ, _+_, _≤_, _<_}
+use native.Mathlib.Decide.{ℕ-discrete}
+use native.Mathlib.Omega.{arith}
+use borrow.Author.Tests.{ne-eqb, eq-eqb, eqb-true}
+use lib.Dec.{eqb}
+use lib.ListN.{length, getD}
+use Rattle.address.specs.declared.Refusal.{Refusal}
+use Rattle.address.specs.Answers.{Answer, refusalNumber, missing, refuses, writeAnswer, writeLeaves}
+use Rattle.address.specs.declared.Refusal.the-variants.{TextTooLong, Malformed, NoRoom, LengthTooLarge, BitsBeyondLength, NoClass, HostTooLarge, FirstAboveLast, WrongFamily}
+use Rattle.words.specs.Words.{table, wordsIn, refusalWords, wordsText, wordsReasons}
+
+-- ---- the table's numbers
+
+-- the rows' numbers count up from k
+countsFrom : ℕ → List (ℕ × List ℕ) → Bool
+countsFrom k [] = true
+countsFrom k (w ∷ ws) = eqb (w .0) k && countsFrom (k + 1) ws
+
+-- a number has words in such rows exactly if it is one of theirs
+words-counted : (n k : ℕ) (ws : List (ℕ × List ℕ)) → countsFrom k ws ≡ true → (missing (wordsIn n ws) ≡ false) ↔ ((k ≤ n) × (n < k + length ws))
+unfolding wordsIn countsFrom
+words-counted n k [] h = (λ e. absurd (false≢true (sym e)), λ r. absurd (omega (arith, r .0, r .1)))
+words-counted n k (w ∷ ws) h =
+    let both = and-eq-true-iff (eqb (w .0) k) (countsFrom (k + 1) ws) .0 h in
+    let here : w .0 ≡ k = eqb-true (w .0) k (both .0) in
+    let more = words-counted n (k + 1) ws (both .1) in
+    elim (ℕ-discrete n (w .0)) [
+      | yes e ↦ rw (eq-eqb n (w .0) e) (λ r. (omega arith, omega arith), λ r. refl)
+      | no d ↦ rw (ne-eqb n (w .0) d) (λ e. let r = more .0 e in (omega (arith, r .0), omega (arith, r .1)), λ r. more .1 (omega (arith, r .0, d), omega (arith, r .1)))
+    ]
+
+pub words-1-to-9 : (n : ℕ) → (missing (refusalWords n) ≡ false) ↔ ((1 ≤ n) × (n ≤ 9))
+unfolding refusalWords countsFrom
+words-1-to-9 n = let c = words-counted n 1 table refl in (λ e. let r = c .0 e in (r .0, omega (arith, r .1)), λ r. c .1 (r .0, omega (arith, r .1)))
+
+-- ---- the refusals
+
+abbrev Numbered : ℕ → Type 0
+Numbered n = (e : Refusal) × (refusalNumber e ≡ n)
+
+-- a number of 1 to 9 is a refusal's
+pub refusal-of : (n : ℕ) → 1 ≤ n → n ≤ 9 → Numbered n
+refusal-of n l h =
+    up TextTooLong l λ l. up Malformed l λ l. up NoRoom l λ l. up LengthTooLarge l λ l. up BitsBeyondLength l λ l. up NoClass l λ l. up HostTooLarge l λ l.
+    up FirstAboveLast l λ l. (WrongFamily, omega (arith, l, h))
+  where
+    up : (e : Refusal) → refusalNumber e ≤ n → (refusalNumber e + 1 ≤ n → Numbered n) → Numbered n
+    up e l above = elim (ℕ-discrete n (refusalNumber e)) [ yes p ↦ (e, sym p) | no p ↦ above (omega (arith, l, p)) ]
+
+-- the number of the first row with words as long as these and the same fifth byte
+rowLike : List ℕ → List (ℕ × List ℕ) → ℕ
+rowLike t [] = 0
+rowLike t (w ∷ ws) = cond (eqb (length t) (length (w .1)) && eqb (getD t 4 0) (getD (w .1) 4 0)) (w .0) (rowLike t ws)
+
+pub numberBy : List ℕ → ℕ
+numberBy t = rowLike t table
+
+-- is the number whose words they are
+pub number-back : (e : Refusal) → numberBy (wordsText (refusalNumber e)) ≡ refusalNumber e
+unfolding refusalWords rowLike numberBy
+number-back TextTooLong = refl
+number-back Malformed = refl
+number-back NoRoom = refl
+number-back LengthTooLarge = refl
+number-back BitsBeyondLength = refl
+number-back NoClass = refl
+number-back HostTooLarge = refl
+number-back FirstAboveLast = refl
+number-back WrongFamily = refl
+
+-- ---- what is written
 
 -- what the contract says of an answer and a buffer
 abbrev Writes : ℕ → List ℕ → Answer ℕ → List ℕ → Type 0
