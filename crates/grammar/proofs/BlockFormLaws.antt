@@ -26,7 +26,7 @@ use Rattle.text.proofs.ByteLaws.{strict-lacks}
 use Rattle.blocks.specs.BlockText.{withLength, blockOf, blockTextAnswer, blockText}
 use Rattle.blocks.proofs.BlockTextLaws.{answer-long, answer-malformed, answer-checked}
 use Rattle.grammar.specs.StrictForm.{IPv4Text, IPv6Text, StrictForm, either-4, either-6}
-use Rattle.grammar.specs.BlockForm.{BlockForm, prefix, BlockCall, too-long, not-block, length-above, bits-beyond, block, WrittenBlock, normal-prefix}
+use Rattle.grammar.specs.BlockForm.{BlockForm, prefix, BlockCall, too-long, not-block, length-above, bits-beyond, read-block, WrittenBlock, normal-prefix}
 use Rattle.grammar.proofs.OptionLaws.{impossible, nothing-there}
 use Rattle.grammar.proofs.NumberLaws.{size-reads, reads-size, size-999, size-spelling}
 use Rattle.grammar.proofs.LengthLaws.{block-most}
@@ -84,7 +84,7 @@ module _ (t : List ℕ) where
   call-answers (not-block l f) = sym (answer-malformed t l (nothing-there (blockOf t) (λ b e. f (b .address) (b .length) (reads-block t b e))))
   call-answers (length-above {a} {n} f l) = sym (checked f (read-refused (value a n) LengthTooLarge (sym (refusal-length (value a n) l))))
   call-answers (bits-beyond {a} {n} f l z) = sym (checked f (read-refused (value a n) BitsBeyondLength (sym (refusal-bits (value a n) l (ne-eqb _ 0 z)))))
-  call-answers (block {a} {n} f l z) = sym (checked f (read-valid (value a n) (refusal-none (value a n) l (eq-eqb _ 0 z))))
+  call-answers (read-block {a} {n} f l z) = sym (checked f (read-valid (value a n) (refusal-none (value a n) l (eq-eqb _ 0 z))))
 
   of : {r : Answer Block} → BlockCall t r → BlockCall t (blockTextAnswer t)
   of c = subst (BlockCall t) (sym (call-answers c)) c
@@ -94,7 +94,7 @@ module _ (t : List ℕ) where
     where
       found : {a : Address} {n : ℕ} → BlockForm t a n → BlockCall t (blockTextAnswer t)
       found {a} {n} f = elim (decLe n (width a)) [
-        | yes l ↦ elim (ℕ-discrete (number a % 2 ^ (width a - n)) 0) [ yes z ↦ of (block f l z) | no z ↦ of (bits-beyond f l z) ]
+        | yes l ↦ elim (ℕ-discrete (number a % 2 ^ (width a - n)) 0) [ yes z ↦ of (read-block f l z) | no z ↦ of (bits-beyond f l z) ]
         | no l ↦ of (length-above f (omega arith))
       ]
 
@@ -109,7 +109,7 @@ module _ (t : List ℕ) where
   gives-form b (not-block l f) e = absurd (gives-refuses Malformed (sym e))
   gives-form b (length-above f l) e = absurd (gives-refuses LengthTooLarge (sym e))
   gives-form b (bits-beyond f l z) e = absurd (gives-refuses BitsBeyondLength (sym e))
-  gives-form b (block {a} {n} f l z) e =
+  gives-form b (read-block {a} {n} f l z) e =
       subst (λ (c : Block). BlockForm t (c .address) (c .length) × (c .length ≤ width (c .address)) × (number (c .address) % 2 ^ (width (c .address) - c .length) ≡ 0)) (gives-one e) (f, l, z)
 
 -- ---- one spelling
@@ -124,10 +124,10 @@ block-spelling (prefix s p) = ap₂ (λ a b. a ++ 47 ∷ b) (text-spelling (is-i
 
 -- ---- writing
 
-pub block-written : {a : Address} {n : ℕ} {t : List ℕ} → WrittenBlock a n t → blockText (value a n) ≡ t
+pub block-text-is : {a : Address} {n : ℕ} {t : List ℕ} → WrittenBlock a n t → blockText (value a n) ≡ t
 unfolding blockText
-block-written (normal-prefix h p) = ap₂ (λ a b. a ++ 47 ∷ b) (normal-written h) (size-spelling p)
+block-text-is (normal-prefix h p) = ap₂ (λ a b. a ++ 47 ∷ b) (normal-written h) (size-spelling p)
 
-pub written-block : (b : Block) → IsAddress (b .address) → b .length ≤ 999 → WrittenBlock (b .address) (b .length) (blockText b)
+pub block-text-has : (b : Block) → IsAddress (b .address) → b .length ≤ 999 → WrittenBlock (b .address) (b .length) (blockText b)
 unfolding blockText
-written-block b is l = normal-prefix (written-normal (b .address) is) (reads-size 999 (decimal (b .length)) (b .length) (decimal-part 999 (b .length) l (omega arith)) .0)
+block-text-has b is l = normal-prefix (written-normal (b .address) is) (reads-size 999 (decimal (b .length)) (b .length) (decimal-part 999 (b .length) l (omega arith)) .0)

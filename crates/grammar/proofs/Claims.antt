@@ -1,5 +1,5 @@
--- What is claimed of the published grammar and of the loose, network and block forms: reading accepts exactly their texts, answers what they
--- mean and refuses all others by their numbers. Assumes nothing.
+-- What is claimed of the published grammar, of normal text and of the loose, network and block forms: reading accepts exactly their texts,
+-- answers what they mean and refuses all others by their numbers, and what is written is the one text of its form. Assumes nothing.
 use mathlib.Core.Path.{_≡_, refl, sym, ap, subst, subst₂, _∙_}
 use mathlib.Core.Bool.{false}
 use mathlib.Core.List.{List, [], _∷_, _++_}
@@ -38,11 +38,11 @@ use Rattle.network.proofs.Claims as network
 use Rattle.blocks.specs.BlockText.{blockOf, blockTextAnswer, blockText}
 use Rattle.blocks.proofs.Claims as blocks
 use Rattle.grammar.specs.Rfc3986.{dot, colon, HEXDIG, digit-string, dec-octet, IPv4address, h16, IPv6address}
-use Rattle.grammar.specs.StrictForm.{IPv4Text, IPv6Text, StrictForm, four, six, either-4, either-6, StrictCall, strict}
+use Rattle.grammar.specs.StrictForm.{IPv4Text, IPv6Text, StrictForm, four, six, either-4, either-6, StrictCall, read-strict}
 use Rattle.grammar.specs.NormalForm.{NormalGroups, NormalForm}
-use Rattle.grammar.specs.LooseForm.{OCTDIG, loose-part, LooseForm, LooseCall, loose}
-use Rattle.grammar.specs.NetworkForm.{slash, bytes-given, size-part, inferred-size, NetworkForm, NetworkCall, network, WrittenForm, WritingCall}
-use Rattle.grammar.specs.BlockForm.{BlockForm, BlockCall, block, WrittenBlock}
+use Rattle.grammar.specs.LooseForm.{OCTDIG, loose-part, LooseForm, LooseCall, read-loose}
+use Rattle.grammar.specs.NetworkForm.{slash, bytes-given, size-part, inferred-size, NetworkForm, NetworkCall, read-network, WrittenNetwork, NetworkWriting}
+use Rattle.grammar.specs.BlockForm.{BlockForm, BlockCall, read-block, WrittenBlock}
 use Rattle.grammar.proofs.NumberLaws.{octet-reads, reads-octet, h16-reads, reads-h16, size-reads, reads-size, size-999, size-spelling}
 use Rattle.grammar.proofs.DottedLaws.{address-reads, address-octets, octets-address, one-spelling}
 use Rattle.grammar.proofs.GrammarLaws.{grammar-reads, reads-grammar}
@@ -101,7 +101,7 @@ module _ (asked : ℕ) (t : List ℕ) where
 
   -- An address is given exactly if the grammar has the text, and it means that address.
   pub strict-accepts : (a : Address) → (strictAnswer asked t ≡ gives a) ↔ StrictForm asked t a
-  strict-accepts a = (strict-laws.gives-form asked t a (strict-laws.answers-call asked t), λ h. strict-laws.call-answers asked t (strict h))
+  strict-accepts a = (strict-laws.gives-form asked t a (strict-laws.answers-call asked t), λ h. strict-laws.call-answers asked t (read-strict h))
 
   -- So does whatever answers as `read_address` promises to.
   pub strict-reader : (r : Reading) → readingAnswer r ≡ strictAnswer asked t → (a : Address) → (r ≡ Read a) ↔ StrictForm asked t a
@@ -200,7 +200,7 @@ module _ (t : List ℕ) where
 
   -- An address is given exactly if the text is "within 64 bytes", of the form, and means that address.
   pub loose-accepts : (a : Address) → (looseAnswer t ≡ gives a) ↔ ((length t ≤ 64) × LooseForm t a)
-  loose-accepts a = (loose-laws.gives-form t a (loose-laws.answers-call t), λ h. loose-laws.call-answers t (loose (h .0) (h .1)))
+  loose-accepts a = (loose-laws.gives-form t a (loose-laws.answers-call t), λ h. loose-laws.call-answers t (read-loose (h .0) (h .1)))
 
   -- So does whatever answers as `read_loose` promises to.
   pub loose-reader : (r : Reading) → readingAnswer r ≡ looseAnswer t → (a : Address) → (r ≡ Read a) ↔ ((length t ≤ 64) × LooseForm t a)
@@ -295,7 +295,7 @@ module _ (t old : List ℕ) where
   -- "The answer is the size and the number of bytes written." "A good answer changes only the first bytes it counts; later bytes stay."
   pub network-stores : (size : ℕ) (ws : List ℕ) → NetworkForm t size ws → size ≤ 32 → length ws ≤ length old
       → (networkAnswer t old ≡ gives (size, length ws)) × (networkLeaves t old ≡ ws ++ drop (length ws) old)
-  network-stores size ws f h k = network-laws.call-does t old (network f h k)
+  network-stores size ws f h k = network-laws.call-does t old (read-network f h k)
 
   pub network-accepts : (size count : ℕ) → (networkAnswer t old ≡ gives (size, count))
       ↔ ((ws : List ℕ) × NetworkForm t size ws × (size ≤ 32) × (length ws ≡ count) × (count ≤ length old))
@@ -328,8 +328,8 @@ one-to-four-bytes = calls.bytes-most
 -- ---- the network form, written
 
 -- The writer's text is the one of the form, of any address of 32 bits and any size up to 32.
-pub written-exactly : (v size : ℕ) → v < 2 ^ 32 → size ≤ 32 → (t : List ℕ) → (networkText v size ≡ t) ↔ WrittenForm v size t
-written-exactly v size small h t = (λ e. subst (WrittenForm v size) e (written-laws.text-written v size small h), λ w. written-laws.written-text small w)
+pub written-network-exactly : (v size : ℕ) → v < 2 ^ 32 → size ≤ 32 → (t : List ℕ) → (networkText v size ≡ t) ↔ WrittenNetwork v size t
+written-network-exactly v size small h t = (λ e. subst (WrittenNetwork v size) e (written-laws.text-written v size small h), λ w. written-laws.written-text small w)
 
 -- "Reading this gives the same size, and bytes which, filled with zeros to four, are the cleared address": what is written is of the form
 -- that is read.
@@ -348,16 +348,16 @@ module _ (a : Address) (is : IsAddress a) (size : ℕ) (old : List ℕ) where
   left = writeLeaves (writeReasons a size) (networkText (number a) size) old
 
   -- The whole answer of the writer and the whole buffer afterwards, refused calls too: 9 before 4 before 3.
-  pub writing-answers : (r : Answer ℕ) (new : List ℕ) → ((answered ≡ r) × (left ≡ new)) ↔ WritingCall a size old r new
-  writing-answers r new = (λ e. subst₂ (WritingCall a size old) (e .0) (e .1) (written-laws.does-call a is size old), written-laws.call-does a is size old)
+  pub network-writing-answers : (r : Answer ℕ) (new : List ℕ) → ((answered ≡ r) × (left ≡ new)) ↔ NetworkWriting a size old r new
+  network-writing-answers r new = (λ e. subst₂ (NetworkWriting a size old) (e .0) (e .1) (written-laws.does-call a is size old), written-laws.call-does a is size old)
 
-  pub writing-refuses : (e : Refusal) → (answered .number ≡ refusalNumber e) ↔ WritingCall a size old (refuses 0 e) left
+  pub network-writing-refuses : (e : Refusal) → (answered .number ≡ refusalNumber e) ↔ NetworkWriting a size old (refuses 0 e) left
   unfolding writeAnswer
-  writing-refuses = refuses-exactly (λ r. WritingCall a size old r left) 0 _ _ (written-laws.does-call a is size old) (λ r c. written-laws.call-does a is size old c .0)
+  network-writing-refuses = refuses-exactly (λ r. NetworkWriting a size old r left) 0 _ _ (written-laws.does-call a is size old) (λ r c. written-laws.call-does a is size old c .0)
 
   -- So does whatever answers and leaves as `write_network` promises to.
-  pub writing-writer : (r : Writing) (new : List ℕ) → writingAnswer r ≡ answered → new ≡ left → WritingCall a size old (writingAnswer r) new
-  writing-writer r new e f = writing-answers (writingAnswer r) new .0 (sym e, sym f)
+  pub network-writer : (r : Writing) (new : List ℕ) → writingAnswer r ≡ answered → new ≡ left → NetworkWriting a size old (writingAnswer r) new
+  network-writer r new e f = network-writing-answers (writingAnswer r) new .0 (sym e, sym f)
 
 -- ---- block text
 
@@ -379,7 +379,7 @@ module _ (t : List ℕ) where
   -- A block is given exactly if the text is of the form, and the value that it means keeps both rules.
   pub block-accepts : (b : Block) → (blockTextAnswer t ≡ gives b)
       ↔ (BlockForm t (b .address) (b .length) × (b .length ≤ width (b .address)) × (number (b .address) % 2 ^ (width (b .address) - b .length) ≡ 0))
-  block-accepts b = (block-laws.gives-form t b (block-laws.answers-call t), λ h. block-laws.call-answers t (block (h .0) (h .1) (h .2)))
+  block-accepts b = (block-laws.gives-form t b (block-laws.answers-call t), λ h. block-laws.call-answers t (read-block (h .0) (h .1) (h .2)))
 
   -- So does whatever answers as `read_block` promises to.
   pub block-reader : (r : BlockReading) → blockAnswer r ≡ blockTextAnswer t → BlockCall t (blockAnswer r)
@@ -387,7 +387,7 @@ module _ (t : List ℕ) where
 
 -- "Text is written from a block value in normal text": that of its address, a slash and the length.
 pub written-block-exactly : (b : Block) → IsAddress (b .address) → b .length ≤ 999 → (t : List ℕ) → (blockText b ≡ t) ↔ WrittenBlock (b .address) (b .length) t
-written-block-exactly b is l t = (λ e. subst (WrittenBlock (b .address) (b .length)) e (block-laws.written-block b is l), block-laws.block-written)
+written-block-exactly b is l t = (λ e. subst (WrittenBlock (b .address) (b .length)) e (block-laws.block-text-has b is l), block-laws.block-text-is)
 
 -- What is written of a block value is of the form that is read; and of IPv4 it is the only text that is.
 pub written-is-block : (b : Block) → IsAddress (b .address) → b .length ≤ 999 → BlockForm (blockText b) (b .address) (b .length)
@@ -399,12 +399,12 @@ one-IPv4-block-text t v n = block-laws.block-spelling
 -- ---- bytes
 
 -- "A zero byte inside it is a wrong byte. Surrounding blanks are wrong bytes": so is every byte but hex digits, separators and the `x` of a mark.
-module _ (b : ℕ) (no-digit : digitOf b ≡ 16) (no-dot : eqb dot b ≡ false) where
+module _ (b : ℕ) (other : digitOf b ≡ 16) (no-dot : eqb dot b ≡ false) where
   pub loose-only-these : eqb 0x78 b ≡ false → eqb 0x58 b ≡ false → {t : List ℕ} {a : Address} → LooseForm t a → contains b t ≡ false
-  loose-only-these x X h = bytes.loose-lacks b no-digit no-dot x X h
+  loose-only-these x X h = bytes.loose-lacks b other no-dot x X h
 
   pub network-only-these : eqb 0x78 b ≡ false → eqb 0x58 b ≡ false → eqb slash b ≡ false → {t ws : List ℕ} {size : ℕ} → NetworkForm t size ws → contains b t ≡ false
-  network-only-these x X s h = bytes.network-lacks b no-digit no-dot x X s h
+  network-only-these x X s h = bytes.network-lacks b other no-dot x X s h
 
   pub block-only-these : eqb colon b ≡ false → eqb slash b ≡ false → {t : List ℕ} {a : Address} {n : ℕ} → BlockForm t a n → contains b t ≡ false
-  block-only-these c s h = bytes.block-lacks b no-digit no-dot c s h
+  block-only-these c s h = bytes.block-lacks b other no-dot c s h

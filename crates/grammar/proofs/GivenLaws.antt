@@ -17,7 +17,7 @@ use Rattle.dotted.specs.Dotted.{partsOf}
 use Rattle.dotted.proofs.EveryLaws.{Reads, done, more, every-reads, reads-each, reads-so}
 use Rattle.dotted.proofs.DottedLaws.{parts-are, parts-spelling}
 use Rattle.given.specs.GivenBytes.{halfBytes, hexBytes, givenOf}
-use Rattle.grammar.specs.NetworkForm.{half-bytes, no-digit as no-digit-left, odd-digit, two-digits, decimal-parts, bytes-given, after-0x, after-0X, or-decimal, a·b·c·d, a·b·c, a·b, only-a}
+use Rattle.grammar.specs.NetworkForm.{half-bytes, no-digits, odd-digit, two-digits, decimal-parts, bytes-given, after-0x, after-0X, or-decimal, a·b·c·d, a·b·c, a·b, only-a}
 use Rattle.grammar.proofs.NumberLaws.{octet-reads, reads-octet, octet-spelling}
 use Rattle.grammar.proofs.DottedLaws.{separated-split}
 use Rattle.grammar.proofs.OptionLaws.{impossible}
@@ -27,7 +27,7 @@ use Rattle.grammar.proofs.DigitStringLaws.{hex-value, is-hex, all-cons}
 
 pub half-reads : {t bs : List ℕ} → half-bytes t bs → (allDigits 16 t ≡ true) × (halfBytes (map digitOf t) ≡ bs)
 unfolding allDigits halfBytes
-half-reads no-digit-left = (refl, refl)
+half-reads no-digits = (refl, refl)
 half-reads (odd-digit {c} {x} h) = let v = hex-value h in (rw (v .0, lt-ltb x 16 (v .1)), ap (λ (d : ℕ). (d * 16) ∷ []) (v .0))
 half-reads (two-digits {c} {e} {x} {y} {t} {bs} h k r) =
     let v = hex-value h in
@@ -37,7 +37,7 @@ half-reads (two-digits {c} {e} {x} {y} {t} {bs} h k r) =
 
 reads-half : (t : List ℕ) → allDigits 16 t ≡ true → half-bytes t (halfBytes (map digitOf t))
 unfolding halfBytes
-reads-half [] e = no-digit-left
+reads-half [] e = no-digits
 reads-half (c ∷ []) e = odd-digit (is-hex c (all-cons 16 c [] e .0))
 reads-half (c ∷ d ∷ t) e =
     let a = all-cons 16 c (d ∷ t) e in

@@ -25,7 +25,7 @@ use Rattle.loose.specs.Loose.{loosePart, octetsFrom, combined, looseOf, looseAn
 use Rattle.loose.proofs.LooseLaws.{addressAfter, loose-long, loose-read, loose-refused}
 use Rattle.loose.proofs.Claims.{strict-is-loose}
 use Rattle.loose.proofs.FormLaws.{one-part, two-parts, three-parts, four-parts, no-fifth}
-use Rattle.grammar.specs.LooseForm.{LooseForm, a·b·c·d, a·b·c, a·b, only-a, LooseCall, too-long, not-loose, loose}
+use Rattle.grammar.specs.LooseForm.{LooseForm, a·b·c·d, a·b·c, a·b, only-a, LooseCall, too-long, not-loose, read-loose}
 use Rattle.grammar.specs.StrictForm.{IPv4Text, of-octets}
 use Rattle.grammar.proofs.DottedLaws.{separated-split, address-reads}
 use Rattle.grammar.proofs.OptionLaws.{impossible, same-value, nothing-there}
@@ -111,7 +111,7 @@ module _ (t : List ℕ) where
   pub call-answers : {r : Answer Address} → LooseCall t r → looseAnswer t ≡ r
   call-answers (too-long h) = sym (loose-long t h)
   call-answers (not-loose l n) = sym (loose-refused t l (nothing-there (looseOf t) (λ a e. n a (reads-form t a e))))
-  call-answers (loose l g) = form-answer l g
+  call-answers (read-loose l g) = form-answer l g
 
   pub answers-call : LooseCall t (looseAnswer t)
   answers-call = elim (decLe (length t) 64) [
@@ -121,10 +121,10 @@ module _ (t : List ℕ) where
     where
       go : length t ≤ 64 → (o : Option Address) → looseOf t ≡ o → LooseCall t (looseAnswer t)
       go l none q = subst (LooseCall t) (loose-refused t l q) (not-loose l (λ a g. impossible (sym q ∙ form-reads g)))
-      go l (some a) q = let g = reads-form t a q in subst (LooseCall t) (sym (form-answer l g)) (loose l g)
+      go l (some a) q = let g = reads-form t a q in subst (LooseCall t) (sym (form-answer l g)) (read-loose l g)
 
   -- what a call that gives an address has found
   pub gives-form : {r : Answer Address} (a : Address) → LooseCall t r → r ≡ gives a → (length t ≤ 64) × LooseForm t a
   gives-form a (too-long h) e = absurd (gives-refuses TextTooLong (sym e))
   gives-form a (not-loose l m) e = absurd (gives-refuses Malformed (sym e))
-  gives-form a (loose l g) e = (l, subst (LooseForm t) (gives-one e) g)
+  gives-form a (read-loose l g) e = (l, subst (LooseForm t) (gives-one e) g)

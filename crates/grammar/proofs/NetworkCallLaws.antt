@@ -11,7 +11,7 @@ use Rattle.address.proofs.Claims.{gives-refuses}
 use Rattle.network.specs.Network.{Network}
 use Rattle.given.proofs.GivenLaws.{given-octets}
 use Rattle.dotted.proofs.DottedLaws.{Octets}
-use Rattle.grammar.specs.NetworkForm.{bytes-given, from-first-byte, 240-up, 224-up, 192-up, 128-up, else-8, inferred-size, becomes, below-8, no-less, eighths, bytes-written, as-given, zeros-added, NetworkForm, with-size, without, NetworkCall, too-long, no-network, too-large, no-room, network}
+use Rattle.grammar.specs.NetworkForm.{bytes-given, from-first-byte, 240-up, 224-up, 192-up, 128-up, else-8, inferred-size, becomes, below-8, no-less, eighths, bytes-written, as-given, zeros-added, NetworkForm, with-size, without, NetworkCall, too-long, no-network, too-large, no-room, read-network}
 use Rattle.grammar.proofs.OptionLaws.{same-value}
 use Rattle.grammar.proofs.GivenLaws.{given-reads}
 use Rattle.grammar.proofs.NetworkFormLaws.{first-is, network-reads}
@@ -71,7 +71,7 @@ module _ {t old : List ℕ} where
   says-good size count (no-network l n) e = absurd (gives-refuses Malformed (sym e))
   says-good size count (too-large f h) e = absurd (gives-refuses LengthTooLarge (sym e))
   says-good size count (no-room f h k) e = absurd (gives-refuses NoRoom (sym e))
-  says-good size count (network {size = m} {ws = ws} f h k) e =
+  says-good size count (read-network {size = m} {ws = ws} f h k) e =
       let same : m ≡ size = ap (λ (r : Answer (ℕ × ℕ)). r .fields .0) e in
       let long : length ws ≡ count = ap (λ (r : Answer (ℕ × ℕ)). r .fields .1) e in
       (ws, subst (λ (n : ℕ). NetworkForm t n ws) same f, omega arith, long, omega arith)
@@ -81,4 +81,4 @@ module _ {t old : List ℕ} where
   refused-keeps (no-network l n) e = refl
   refused-keeps (too-large f h) e = refl
   refused-keeps (no-room f h k) e = refl
-  refused-keeps (network f h k) e = absurd (e refl)
+  refused-keeps (read-network f h k) e = absurd (e refl)

@@ -19,7 +19,7 @@ use Rattle.given.proofs.GivenLaws.{given-octets}
 use Rattle.network_text.specs.NetworkText.{sizeBytes}
 use Rattle.network.specs.Network.{Network, classSize, inferredSize, completed, sized, networkOf, networkAnswer, networkLeaves}
 use Rattle.network.proofs.NetworkLaws.{answer-long, answer-stored}
-use Rattle.grammar.specs.NetworkForm.{bytes-given, from-first-byte, 240-up, 224-up, 192-up, 128-up, else-8, inferred-size, becomes, below-8, no-less, rounded-up, eighths, bytes-written, as-given, zeros-added, NetworkForm, with-size, without, NetworkCall, too-long, no-network, too-large, no-room, network}
+use Rattle.grammar.specs.NetworkForm.{bytes-given, from-first-byte, 240-up, 224-up, 192-up, 128-up, else-8, inferred-size, becomes, below-8, no-less, rounded-up, eighths, bytes-written, as-given, zeros-added, NetworkForm, with-size, without, NetworkCall, too-long, no-network, too-large, no-room, read-network}
 use Rattle.grammar.proofs.LengthLaws.{network-most}
 use Rattle.grammar.proofs.NumberLaws.{size-reads, reads-size, size-999}
 use Rattle.grammar.proofs.OptionLaws.{impossible, nothing-there}
@@ -212,7 +212,7 @@ module _ (t old : List ℕ) where
   call-does (no-network l n) = does-malformed l (nothing-there (networkOf t) (λ m e. n (m .size) (m .bytes) (reads-network t m e)))
   call-does (too-large f h) = does-large f h
   call-does (no-room f h k) = does-short f h k
-  call-does (network f h k) = does-store f h k
+  call-does (read-network f h k) = does-store f h k
 
   of : {r : Answer (ℕ × ℕ)} {new : List ℕ} → NetworkCall t old r new → NetworkCall t old (networkAnswer t old) (networkLeaves t old)
   of c = let d = call-does c in subst₂ (NetworkCall t old) (sym (d .0)) (sym (d .1)) c
@@ -222,7 +222,7 @@ module _ (t old : List ℕ) where
     where
       found : {size : ℕ} {ws : List ℕ} → NetworkForm t size ws → NetworkCall t old (networkAnswer t old) (networkLeaves t old)
       found {size} {ws} f = elim (decLe size 32) [
-        | yes h ↦ elim (decLe (length ws) (length old)) [ yes k ↦ of (network f h k) | no k ↦ of (no-room f h (omega arith)) ]
+        | yes h ↦ elim (decLe (length ws) (length old)) [ yes k ↦ of (read-network f h k) | no k ↦ of (no-room f h (omega arith)) ]
         | no h ↦ of (too-large f (omega arith))
       ]
 

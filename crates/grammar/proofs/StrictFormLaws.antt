@@ -27,7 +27,7 @@ use Rattle.text.proofs.FamilyLaws.{eight-colon}
 use Rattle.text.proofs.StrictLaws.{strict-unknown, strict-long, strict-read}
 use Rattle.normal.specs.Normal.{normalText}
 use Rattle.grammar.specs.Rfc3986.{IPv4address, four-octets, IPv6address}
-use Rattle.grammar.specs.StrictForm.{IPv4Text, of-octets, IPv6Text, of-groups, StrictForm, four, six, either-4, either-6, Known, for-4, for-6, for-either, StrictCall, unknown, too-long, not-strict, strict}
+use Rattle.grammar.specs.StrictForm.{IPv4Text, of-octets, IPv6Text, of-groups, StrictForm, four, six, either-4, either-6, Known, for-4, for-6, for-either, StrictCall, unknown, too-long, not-strict, read-strict}
 use Rattle.grammar.proofs.OptionLaws.{impossible, nothing-there}
 use Rattle.grammar.proofs.DottedLaws.{address-reads, reads-address, dotted-spelt}
 use Rattle.grammar.proofs.EightLaws.{reads-eight, eight-length}
@@ -163,14 +163,14 @@ module _ (f : ℕ) (t : List ℕ) where
   call-answers (unknown n) = ⊎-elim (λ a. absurd (n a)) (λ k. sym (strict-unknown f t k)) (known-or-not f)
   call-answers (too-long a l) = sym (strict-long f t (family-known a) l)
   call-answers (not-strict a l n) = answered none a l (nothing-there (strictOf f t) (λ b e. n b (reads-known t b a e)))
-  call-answers (strict {a} h) = answered (some a) (form-known h) (omega (arith, strict-most h)) (form-reads h)
+  call-answers (read-strict {a} h) = answered (some a) (form-known h) (omega (arith, strict-most h)) (form-reads h)
 
   pub answers-call : StrictCall f t (strictAnswer f t)
   answers-call = ⊎-elim (λ a. go a) (λ k. subst (StrictCall f t) (strict-unknown f t k) (unknown (λ a. false≢true (sym k ∙ family-known a)))) (known-or-not f)
     where
       read : Known f → length t ≤ 64 → (o : Option Address) → strictOf f t ≡ o → StrictCall f t (strictAnswer f t)
       read a l none e = subst (StrictCall f t) (sym (answered none a l e)) (not-strict a l (λ b h. impossible (sym e ∙ form-reads h)))
-      read a l (some b) e = subst (StrictCall f t) (sym (answered (some b) a l e)) (strict (reads-known t b a e))
+      read a l (some b) e = subst (StrictCall f t) (sym (answered (some b) a l e)) (read-strict (reads-known t b a e))
 
       go : Known f → StrictCall f t (strictAnswer f t)
       go a = elim (decLe (length t) 64) [
@@ -183,7 +183,7 @@ module _ (f : ℕ) (t : List ℕ) where
   gives-form a (unknown n) e = absurd (gives-refuses WrongFamily (sym e))
   gives-form a (too-long k l) e = absurd (gives-refuses TextTooLong (sym e))
   gives-form a (not-strict k l n) e = absurd (gives-refuses Malformed (sym e))
-  gives-form a (strict h) e = subst (StrictForm f t) (gives-one e) h
+  gives-form a (read-strict h) e = subst (StrictForm f t) (gives-one e) h
 
 -- ---- one spelling
 

@@ -27,7 +27,7 @@ use Rattle.dotted.proofs.DottedLaws.{parts-spelling}
 use Rattle.network_text.specs.NetworkText.{sizeBytes, cleared, networkText, writeReasons}
 use Rattle.network_text.proofs.TextLaws.{cleared-high, write-6, write-large, write-sized}
 use Rattle.network.proofs.Claims.{cleared-bits, kept-bits, size-zero}
-use Rattle.grammar.specs.NetworkForm.{slash, decimal-parts, a·b·c·d, a·b·c, a·b, only-a, size-part, rounded-up, eighths, bits-cleared, clears, WrittenForm, first-bytes, size-0, WritingCall, wrong-family, size-above, text-above, writes}
+use Rattle.grammar.specs.NetworkForm.{slash, decimal-parts, a·b·c·d, a·b·c, a·b, only-a, size-part, rounded-up, eighths, bits-cleared, clears, WrittenNetwork, first-bytes, size-0, NetworkWriting, wrong-family, size-above, text-above, written-network}
 use Rattle.grammar.proofs.NumberLaws.{reads-size, size-spelling}
 use Rattle.grammar.proofs.GivenLaws.{reads-parts, parts-spelling-4}
 
@@ -62,18 +62,18 @@ text-of : (v size n : ℕ) → 1 ≤ n → sizeBytes size ≡ n → networkText 
 unfolding networkText
 text-of v size n any e = ap (λ (m : ℕ). text m (cleared 32 size v) size) (let k : max 1 (sizeBytes size) ≡ n = omega arith in k)
 
-pub text-written : (v size : ℕ) → v < 2 ^ 32 → size ≤ 32 → WrittenForm v size (networkText v size)
+pub text-written : (v size : ℕ) → v < 2 ^ 32 → size ≤ 32 → WrittenNetwork v size (networkText v size)
 text-written v size small h = elim (decLe size 0) [
   | yes z ↦
       let none-else : size ≡ 0 = omega arith in
-      rw none-else (subst (WrittenForm v 0) (sym (size-zero v small)) size-0)
+      rw none-else (subst (WrittenNetwork v 0) (sym (size-zero v small)) size-0)
   | no z ↦
       let c = cleared 32 size v in
       let n = sizeBytes size in
       let parts = subst (λ os. decimal-parts (separated 46 (map decimal (take n os))) (take n os)) (sym (octets-4 c)) (octets-parts n c (omega arith) (omega arith)) in
       let up : rounded-up size n = eighths {size = size} {n = n} (omega arith) (omega arith) in
       let w = first-bytes (clears (kept-bits 32 size v) (cleared-bits 32 size v)) up parts (size-is size h) in
-      subst (WrittenForm v size) (ap (λ os. separated 46 (map decimal (take n os)) ++ 47 ∷ decimal size) (octets-4 c) ∙ sym (text-of v size n (omega arith) refl)) w
+      subst (WrittenNetwork v size) (ap (λ os. separated 46 (map decimal (take n os)) ++ 47 ∷ decimal size) (octets-4 c) ∙ sym (text-of v size n (omega arith) refl)) w
 ]
 
 parts-any : {t bs : List ℕ} → decimal-parts t bs → 1 ≤ length bs
@@ -87,7 +87,7 @@ any-octet : (n : ℕ) (os : List ℕ) → 1 ≤ length (take n os) → 1 ≤ n
 any-octet zero os h = absurd (omega arith)
 any-octet (suc n) os h = omega arith
 
-pub written-text : {v size : ℕ} {t : List ℕ} → v < 2 ^ 32 → WrittenForm v size t → networkText v size ≡ t
+pub written-text : {v size : ℕ} {t : List ℕ} → v < 2 ^ 32 → WrittenNetwork v size t → networkText v size ≡ t
 written-text small (first-bytes {v} {c} {size} {n} {t} {u} cl (eighths h k) p s) =
     text-of v size n (any-octet n (octets (V4 c)) (parts-any p)) (omega arith)
     ∙ ap (λ (w : ℕ). text n w size) (sym (cleared-is cl))
@@ -105,40 +105,40 @@ both : {A B : Type 0} {a b : A} {x y : B} → (a ≡ b) × (x ≡ y) → (b ≡ 
 both p = (sym (p .0), sym (p .1))
 
 module _ (size : ℕ) (old : List ℕ) where
-  ipv4-does : (v : ℕ) → v < 2 ^ 32 → {r : Answer ℕ} {new : List ℕ} → WritingCall (V4 v) size old r new → Does (V4 v) size old r new
+  ipv4-does : (v : ℕ) → v < 2 ^ 32 → {r : Answer ℕ} {new : List ℕ} → NetworkWriting (V4 v) size old r new → Does (V4 v) size old r new
   ipv4-does v small (wrong-family e) = absurd (omega arith)
   ipv4-does v small (size-above e l) = both (write-large size (networkText v size) old v l)
   ipv4-does v small (text-above {t} e l w m) =
       let is = written-text small w in
       both (write-sized size (networkText v size) old v l (write-short (networkText v size) old (length t) (ap length is) m))
-  ipv4-does v small (writes {t} e l w m) =
+  ipv4-does v small (written-network {t} e l w m) =
       let is = written-text small w in
       both (write-sized size (networkText v size) old v l (write-fits (networkText v size) old (length t) (ap length is) m (t ++ drop (length t) old) (ap (λ s. s ++ drop (length t) old) (sym is))))
 
-pub call-does : (a : Address) → IsAddress a → (size : ℕ) (old : List ℕ) → {r : Answer ℕ} {new : List ℕ} → WritingCall a size old r new → Does a size old r new
+pub call-does : (a : Address) → IsAddress a → (size : ℕ) (old : List ℕ) → {r : Answer ℕ} {new : List ℕ} → NetworkWriting a size old r new → Does a size old r new
 call-does (V4 v) small size old c = ipv4-does size old v small c
 call-does (V6 hi lo) is size old c = go c
   where
-    go : {r : Answer ℕ} {new : List ℕ} → WritingCall (V6 hi lo) size old r new → Does (V6 hi lo) size old r new
+    go : {r : Answer ℕ} {new : List ℕ} → NetworkWriting (V6 hi lo) size old r new → Does (V6 hi lo) size old r new
     go (wrong-family e) = both (write-6 size (networkText (number (V6 hi lo)) size) old hi lo)
     go (size-above e l) = absurd (omega arith)
     go (text-above e l w m) = absurd (omega arith)
-    go (writes e l w m) = absurd (omega arith)
+    go (written-network e l w m) = absurd (omega arith)
 
 pub does-call : (a : Address) → IsAddress a → (size : ℕ) (old : List ℕ)
-    → WritingCall a size old (writeAnswer (writeReasons a size) (networkText (number a) size) old) (writeLeaves (writeReasons a size) (networkText (number a) size) old)
+    → NetworkWriting a size old (writeAnswer (writeReasons a size) (networkText (number a) size) old) (writeLeaves (writeReasons a size) (networkText (number a) size) old)
 does-call a is size old = go a is
   where
-    of : (a : Address) → IsAddress a → {r : Answer ℕ} {new : List ℕ} → WritingCall a size old r new
-        → WritingCall a size old (writeAnswer (writeReasons a size) (networkText (number a) size) old) (writeLeaves (writeReasons a size) (networkText (number a) size) old)
-    of a is c = let d = call-does a is size old c in subst₂ (WritingCall a size old) (sym (d .0)) (sym (d .1)) c
+    of : (a : Address) → IsAddress a → {r : Answer ℕ} {new : List ℕ} → NetworkWriting a size old r new
+        → NetworkWriting a size old (writeAnswer (writeReasons a size) (networkText (number a) size) old) (writeLeaves (writeReasons a size) (networkText (number a) size) old)
+    of a is c = let d = call-does a is size old c in subst₂ (NetworkWriting a size old) (sym (d .0)) (sym (d .1)) c
 
-    go : (a : Address) → IsAddress a → WritingCall a size old (writeAnswer (writeReasons a size) (networkText (number a) size) old) (writeLeaves (writeReasons a size) (networkText (number a) size) old)
+    go : (a : Address) → IsAddress a → NetworkWriting a size old (writeAnswer (writeReasons a size) (networkText (number a) size) old) (writeLeaves (writeReasons a size) (networkText (number a) size) old)
     go (V4 v) small = elim (decLe size 32) [
       | yes l ↦
           let w = text-written v size small l in
           elim (decLe (length (networkText v size)) (length old)) [
-            | yes m ↦ of (V4 v) small (writes refl l w m)
+            | yes m ↦ of (V4 v) small (written-network refl l w m)
             | no m ↦ of (V4 v) small (text-above refl l w (omega arith))
           ]
       | no l ↦ of (V4 v) small (size-above refl (omega arith))

@@ -28,7 +28,7 @@ pub data BlockCall (t : List ℕ) : Answer Block → Type 0 where
   -- 5: "a block's address has a one bit beyond its length"
   bits-beyond : {a : Address} {n : ℕ} → BlockForm t a n → n ≤ width a → (number a % 2 ^ (width a - n) ≡ 0 → ⊥)
       → BlockCall t (refuses noBlock BitsBeyondLength)
-  block : {a : Address} {n : ℕ} → BlockForm t a n → n ≤ width a → number a % 2 ^ (width a - n) ≡ 0
+  read-block : {a : Address} {n : ℕ} → BlockForm t a n → n ≤ width a → number a % 2 ^ (width a - n) ≡ 0
       → BlockCall t (gives (record { address = a; length = n }))
 
 -- ---- writing

@@ -54,4 +54,4 @@ pub data LooseCall (t : List ℕ) : Answer Address → Type 0 where
   -- 2: "the text is not of the form asked for"; "Too large is refusal 2."
   not-loose : length t ≤ 64 → ((a : Address) → LooseForm t a → ⊥) → LooseCall t (refuses noAddress Malformed)
   -- "Any number of leading zeros is allowed within 64 bytes."
-  loose : {a : Address} → length t ≤ 64 → LooseForm t a → LooseCall t (gives a)
+  read-loose : {a : Address} → length t ≤ 64 → LooseForm t a → LooseCall t (gives a)

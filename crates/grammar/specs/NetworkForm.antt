@@ -1,4 +1,4 @@
--- The network form and the call that reads it, to be held beside 01, "Network form", and document 000 (`inet_net_pton`).
+-- The network form, the call that reads it and the one that writes it, to be held beside 01, "Network form", and document 000 (`inet_net_pton`).
 -- `rule t v` says that the rule has the text t, and that t means v. A text is the list of its bytes. Nothing is split or searched here.
 -- Assumes nothing.
 use mathlib.Core.Path.{_≡_}
@@ -22,7 +22,7 @@ slash = 0x2F
 -- "Hex digits fill half bytes from the left. An odd last digit fills the upper half of its byte, the lower half is zero, and that byte counts
 -- as given (our rule)."
 pub data half-bytes : List ℕ → List ℕ → Type 0 where
-  no-digit : half-bytes [] []
+  no-digits : half-bytes [] []
   odd-digit : {c x : ℕ} → HEXDIG c x → half-bytes (c ∷ []) ((x * 16) ∷ [])
   two-digits : {c e x y : ℕ} {t bs : List ℕ} → HEXDIG c x → HEXDIG e y → half-bytes t bs → half-bytes (c ∷ e ∷ t) ((x * 16 + y) ∷ bs)
 
@@ -102,7 +102,7 @@ pub data NetworkCall (t old : List ℕ) : Answer (ℕ × ℕ) → List ℕ → T
   too-large : {size : ℕ} {ws : List ℕ} → NetworkForm t size ws → 32 < size → NetworkCall t old (refuses (0, 0) LengthTooLarge) old
   -- 3: "the lent buffer is shorter than the bytes the answer needs"
   no-room : {size : ℕ} {ws : List ℕ} → NetworkForm t size ws → size ≤ 32 → length old < length ws → NetworkCall t old (refuses (0, 0) NoRoom) old
-  network : {size : ℕ} {ws : List ℕ} → NetworkForm t size ws → size ≤ 32 → length ws ≤ length old
+  read-network : {size : ℕ} {ws : List ℕ} → NetworkForm t size ws → size ≤ 32 → length ws ≤ length old
       → NetworkCall t old (gives (size, length ws)) (ws ++ drop (length ws) old)
 
 -- ---- writing
@@ -112,21 +112,21 @@ pub data bits-cleared : ℕ → ℕ → ℕ → Type 0 where
   clears : {size v c : ℕ} → c / 2 ^ (32 - size) ≡ v / 2 ^ (32 - size) → c % 2 ^ (32 - size) ≡ 0 → bits-cleared size v c
 
 -- the text that is written of an address of 32 bits and a size
-pub data WrittenForm : ℕ → ℕ → List ℕ → Type 0 where
+pub data WrittenNetwork : ℕ → ℕ → List ℕ → Type 0 where
   -- "the first (size/8, rounded up) bytes in decimal with dots, bits beyond the size cleared, a slash and the size"
   first-bytes : {v c size n : ℕ} {t u : List ℕ} → bits-cleared size v c → rounded-up size n → decimal-parts t (take n (octets (V4 c))) → size-part u size
-      → WrittenForm v size (t ++ slash ∷ u)
+      → WrittenNetwork v size (t ++ slash ∷ u)
   -- "Size 0 writes `0/0`."
-  size-0 : {v : ℕ} → WrittenForm v 0 (0x30 ∷ slash ∷ 0x30 ∷ [])
+  size-0 : {v : ℕ} → WrittenNetwork v 0 (0x30 ∷ slash ∷ 0x30 ∷ [])
 
 -- what writing an address and a size into the lent buffer `old` answers, and the buffer afterwards
-pub data WritingCall (a : Address) (size : ℕ) (old : List ℕ) : Answer ℕ → List ℕ → Type 0 where
+pub data NetworkWriting (a : Address) (size : ℕ) (old : List ℕ) : Answer ℕ → List ℕ → Type 0 where
   -- 9: "an IPv6 address is handed to [...] the network writer"
-  wrong-family : family a ≡ 6 → WritingCall a size old (refuses 0 WrongFamily) old
+  wrong-family : family a ≡ 6 → NetworkWriting a size old (refuses 0 WrongFamily) old
   -- 4: "a length or bit count is above 32"
-  size-above : family a ≡ 4 → 32 < size → WritingCall a size old (refuses 0 LengthTooLarge) old
+  size-above : family a ≡ 4 → 32 < size → NetworkWriting a size old (refuses 0 LengthTooLarge) old
   -- 3
-  text-above : {t : List ℕ} → family a ≡ 4 → size ≤ 32 → WrittenForm (number a) size t → length old < length t
-      → WritingCall a size old (refuses 0 NoRoom) old
-  writes : {t : List ℕ} → family a ≡ 4 → size ≤ 32 → WrittenForm (number a) size t → length t ≤ length old
-      → WritingCall a size old (gives (length t)) (t ++ drop (length t) old)
+  text-above : {t : List ℕ} → family a ≡ 4 → size ≤ 32 → WrittenNetwork (number a) size t → length old < length t
+      → NetworkWriting a size old (refuses 0 NoRoom) old
+  written-network : {t : List ℕ} → family a ≡ 4 → size ≤ 32 → WrittenNetwork (number a) size t → length t ≤ length old
+      → NetworkWriting a size old (gives (length t)) (t ++ drop (length t) old)

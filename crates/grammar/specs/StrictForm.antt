@@ -45,4 +45,4 @@ pub data StrictCall (asked : ℕ) (t : List ℕ) : Answer Address → Type 0 whe
   too-long : Known asked → 64 < length t → StrictCall asked t (refuses noAddress TextTooLong)
   -- 2: "the text is not of the form asked for, the empty text included"
   not-strict : Known asked → length t ≤ 64 → ((a : Address) → StrictForm asked t a → ⊥) → StrictCall asked t (refuses noAddress Malformed)
-  strict : {a : Address} → StrictForm asked t a → StrictCall asked t (gives a)
+  read-strict : {a : Address} → StrictForm asked t a → StrictCall asked t (gives a)

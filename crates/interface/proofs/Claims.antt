@@ -35,6 +35,7 @@ use Rattle.blocks.proofs.Claims as blocks
 use Rattle.records.specs.Records.{recordSize, recordsOf, readRecords}
 use Rattle.ranges.specs.Ranges.{rangeRecords, rangeAnswer, rangeLeaves}
 use Rattle.words.specs.Words.{wordsText, wordsReasons}
+use Rattle.words.proofs.Claims as words
 use Rattle.c_answers.specs.CAnswers.{besides}
 use Rattle.interface.specs.Interface.{Outcome, outcome, whenGiven, writes, addressInto, addressWritten, networkInto, networkWrites, networkWritten, octetsSplit, blockInto, blockWrites, blockWritten, rangeTo, rangeInto, wordsInto}
 use Rattle.interface.specs.Buffers.{Wrote, Answered, Filled}
@@ -94,11 +95,16 @@ refusal-stands e old = (
   λ bytes a h k. sym (when-given _ _ (octetsAnswer bytes) a (sym h)) ∙ k,
 )
 
--- Where it stands on a value, it answers and leaves what the call inside it answers and leaves: with an address or a block that is read,
+-- Where it stands on a value, it answers and leaves what the call inside it answers and leaves: with an address, a network or a block that is
+-- read,
 module _ (old : List ℕ) where
   pub address-put : (x : Answer Address) (a : Address) → x ≡ gives a → addressInto x old ≡ outcome (writeAnswer [] (octets a) old) (writeLeaves [] (octets a) old)
   unfolding addressInto
   address-put x a is = sym (when-given _ _ x a (sym is))
+
+  pub network-put : (t : List ℕ) → networkInto t old ≡ outcome (networkAnswer t old) (networkLeaves t old)
+  unfolding networkInto
+  network-put t = refl
 
   pub block-put : (t : List ℕ) (b : Block) → blockTextAnswer t ≡ gives b
       → let bytes = octets (b .address) in blockInto t old ≡ outcome (besides (b .length) (writeAnswer [] bytes old)) (writeLeaves [] bytes old)
@@ -315,6 +321,20 @@ unfolding rangeInto rangeTo whenGiven
 range-exactly first last old a b is-a is-b = rw (is-a, is-b) (laws.range-good-octets first last old a b is-a is-b)
 
 -- ---- words
+
+-- The number is refused by 2 exactly if it is none of 1 to 9, and by 3 exactly if it is one of them and the room is less; else the call is good.
+module _ (k : ℕ) (old : List ℕ) where
+  pub words-unknown : (wordsInto k old .answers .number ≡ 2) ↔ ¬ ((1 ≤ k) × (k ≤ 9))
+  unfolding wordsInto
+  words-unknown = words.unknown-exactly k old
+
+  pub words-short : (wordsInto k old .answers .number ≡ 3) ↔ ((1 ≤ k) × (k ≤ 9) × (length old < length (wordsText k)))
+  unfolding wordsInto
+  words-short = words.room-exactly k old
+
+  pub words-good : (wordsInto k old .answers ≡ gives (length (wordsText k))) ↔ ((1 ≤ k) × (k ≤ 9) × (length (wordsText k) ≤ length old))
+  unfolding wordsInto
+  words-good = words.good-exactly k old
 
 -- The words that the caller holds are those of the number.
 pub words-held : (k : ℕ) (old : List ℕ) (n : ℕ) → wordsInto k old .answers ≡ gives n

@@ -243,7 +243,7 @@ module _ (bs : List ℕ) where
   record-17 l = rw l
 
   -- other bytes are no record
-  record-other : ¬ (length bs ≡ 5) → ¬ (length bs ≡ 17) → recordBlock bs ≡ none
+  pub record-other : ¬ (length bs ≡ 5) → ¬ (length bs ≡ 17) → recordBlock bs ≡ none
   unfolding recordBlock
   record-other n m = rw (ne-eqb (length bs) 5 n, ne-eqb (length bs) 17 m)
 

@@ -11,7 +11,7 @@ use borrow.Author.Tests.{ne-eqb, eq-eqb, eqb-true}
 use lib.Dec.{eqb}
 use lib.ListN.{length, getD}
 use Rattle.address.specs.declared.Refusal.{Refusal}
-use Rattle.address.specs.Answers.{Answer, refusalNumber, missing, refuses, writeAnswer, writeLeaves}
+use Rattle.address.specs.Answers.{Answer, refusalNumber, missing, refusal, refuses, writeAnswer, writeLeaves}
 use Rattle.address.specs.declared.Refusal.the-variants.{TextTooLong, Malformed, NoRoom, LengthTooLarge, BitsBeyondLength, NoClass, HostTooLarge, FirstAboveLast, WrongFamily}
 use Rattle.words.specs.Words.{table, wordsIn, refusalWords, wordsText, wordsReasons}
 
@@ -100,3 +100,20 @@ pub no-words : (n : ℕ) → ((((((((Unit {0} × Not n 1) × Not n 2) × Not n 3
 unfolding refusalWords
 no-words n h =
     rw (ne-eqb n 1 (h .0 .0 .0 .0 .0 .0 .0 .0 .1), ne-eqb n 2 (h .0 .0 .0 .0 .0 .0 .0 .1), ne-eqb n 3 (h .0 .0 .0 .0 .0 .0 .1), ne-eqb n 4 (h .0 .0 .0 .0 .0 .1), ne-eqb n 5 (h .0 .0 .0 .0 .1), ne-eqb n 6 (h .0 .0 .0 .1), ne-eqb n 7 (h .0 .0 .1), ne-eqb n 8 (h .0 .1), ne-eqb n 9 (h .1))
+
+-- ---- the reason against a number
+
+pub no-reason : (t : Bool) → (refusal ((2, t) ∷ []) ≡ 0) ↔ (t ≡ false)
+unfolding refusal
+no-reason true = (λ e. absurd (omega arith), λ e. absurd (false≢true (sym e)))
+no-reason false = (λ e. refl, λ e. refl)
+
+pub first-2 : (t short : Bool) → (refusal ((3, short) ∷ (2, t) ∷ []) ≡ 2) ↔ (t ≡ true)
+unfolding refusal
+first-2 true short = (λ e. refl, λ e. refl)
+first-2 false true = (λ e. absurd (omega arith), λ e. absurd (false≢true e))
+first-2 false false = (λ e. absurd (omega arith), λ e. absurd (false≢true e))
+
+pub not-false : (t : Bool) → ¬ (t ≡ false) → t ≡ true
+not-false true n = refl
+not-false false n = absurd (n refl)
