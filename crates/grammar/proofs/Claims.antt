@@ -39,7 +39,7 @@ use Rattle.blocks.specs.BlockText.{blockOf, blockTextAnswer, blockText}
 use Rattle.blocks.proofs.Claims as blocks
 use Rattle.grammar.specs.Rfc3986.{dot, colon, HEXDIG, digit-string, dec-octet, IPv4address, h16, IPv6address}
 use Rattle.grammar.specs.StrictForm.{IPv4Text, IPv6Text, StrictForm, four, six, either-4, either-6, StrictCall, read-strict}
-use Rattle.grammar.specs.NormalForm.{NormalGroups, NormalForm}
+use Rattle.grammar.specs.NormalForm.{NormalEight, NormalForm}
 use Rattle.grammar.specs.LooseForm.{OCTDIG, loose-part, LooseForm, LooseCall, read-loose}
 use Rattle.grammar.specs.NetworkForm.{slash, bytes-given, size-part, inferred-size, NetworkForm, NetworkCall, read-network, WrittenNetwork, NetworkWriting}
 use Rattle.grammar.specs.BlockForm.{BlockForm, BlockCall, read-block, WrittenBlock}
@@ -157,8 +157,8 @@ pub one-normal-text : (t u : List ℕ) (a : Address) → NormalForm t a → Norm
 one-normal-text t u a h k = sym (normal-laws.normal-written h) ∙ normal-laws.normal-written k
 
 -- The same of eight groups.
-pub normal-groups-exactly : (gs : List ℕ) → length gs ≡ 8 → AllBelow 65536 gs → (t : List ℕ) → (normalGroups gs ≡ t) ↔ NormalGroups t gs
-normal-groups-exactly gs l small t = (λ e. subst (λ u. NormalGroups u gs) e (normal-laws.written-form gs l small), normal-laws.form-written)
+pub normal-eight-exactly : (gs : List ℕ) → length gs ≡ 8 → AllBelow 65536 gs → (t : List ℕ) → (normalGroups gs ≡ t) ↔ NormalEight t gs
+normal-eight-exactly gs l small t = (λ e. subst (λ u. NormalEight u gs) e (normal-laws.written-form gs l small), normal-laws.form-written)
 
 -- Normal text is strict text of its address, asked for by its family or by 0.
 pub normal-is-strict : (a : Address) → IsAddress a → StrictForm 0 (normalText a) a × StrictForm (family a) (normalText a) a

@@ -28,7 +28,7 @@ use Rattle.normal.proofs.Claims.{shortens, stays}
 use Rattle.normal.proofs.ReadBackLaws.{text-read}
 use Rattle.grammar.specs.Rfc3986.{HEXDIG, digit-string, h16, 1*4HEXDIG}
 use Rattle.grammar.specs.StrictForm.{IPv4Text, StrictForm, four}
-use Rattle.grammar.specs.NormalForm.{no-capital, no-byte, and-byte, normal-h16, no-leading-0, only-0, normal-groups, no-group, one-group, and-more, NormalGroups, whole, shortened-run, NormalForm, four-parts, eight-groups}
+use Rattle.grammar.specs.NormalForm.{no-capital, no-byte, and-byte, normal-h16, no-leading-0, only-0, normal-h16s, no-group, one-group, and-more, NormalEight, whole, shortened-run, NormalForm, of-IPv4, of-IPv6}
 use Rattle.grammar.proofs.OptionLaws.{same-value}
 use Rattle.grammar.proofs.DigitStringLaws.{same-16, digits-all, digits-value}
 use Rattle.grammar.proofs.NumberLaws.{h16-reads, reads-h16}
@@ -102,18 +102,18 @@ hex-normal x h =
 
 -- ---- groups with colons
 
-groups-spelling : {t gs : List ℕ} → normal-groups t gs → groupsText gs ≡ t
+groups-spelling : {t gs : List ℕ} → normal-h16s t gs → groupsText gs ≡ t
 unfolding groupsText separated
 groups-spelling no-group = refl
 groups-spelling (one-group g) = group-spelling g
 groups-spelling (and-more {t} {u} {x} {y} {ys} g r) = ap₂ (λ a b. a ++ 58 ∷ b) (group-spelling g) (groups-spelling r)
 
-groups-below : {t gs : List ℕ} → normal-groups t gs → AllBelow 65536 gs
+groups-below : {t gs : List ℕ} → normal-h16s t gs → AllBelow 65536 gs
 groups-below no-group = tt
 groups-below (one-group g) = (group-below g, tt)
 groups-below (and-more g r) = (group-below g, groups-below r)
 
-hex-groups : (gs : List ℕ) → AllBelow 65536 gs → normal-groups (groupsText gs) gs
+hex-groups : (gs : List ℕ) → AllBelow 65536 gs → normal-h16s (groupsText gs) gs
 unfolding groupsText separated
 hex-groups [] l = no-group
 hex-groups (x ∷ []) l = one-group (hex-normal x (l .0))
@@ -134,26 +134,26 @@ around-text ws xs n =
 
 -- ---- the eight groups
 
-pub form-written : {t gs : List ℕ} → NormalGroups t gs → normalGroups gs ≡ t
+pub form-written : {t gs : List ℕ} → NormalEight t gs → normalGroups gs ≡ t
 form-written (whole {t} {gs} g l few) =
     let m = run-is gs in
     stays gs (firstRun (longestRun gs) gs) (longestRun gs) m (omega (arith, few (firstRun (longestRun gs) gs) (longestRun gs) (m .run))) ∙ groups-spelling g
 form-written (shortened-run {s} {t} {ws} {xs} {n} g h two l m) =
     shortens (ws ++ (replicate n 0 ++ xs)) (length ws) n m two ∙ around-text ws xs n ∙ ap₂ (λ a b. a ++ (58 ∷ 58 ∷ b)) (groups-spelling g) (groups-spelling h)
 
-form-below : {t gs : List ℕ} → NormalGroups t gs → AllBelow 65536 gs
+form-below : {t gs : List ℕ} → NormalEight t gs → AllBelow 65536 gs
 form-below (whole g l few) = groups-below g
 form-below (shortened-run {ws = ws} {xs = xs} {n = n} g h two l m) =
     below-append 65536 ws (replicate n 0 ++ xs) (groups-below g) (below-append 65536 (replicate n 0) xs (zeros-below 65536 n (lit< tt)) (groups-below h))
 
 module _ (gs : List ℕ) (long : length gs ≡ 8) (small : AllBelow 65536 gs) where
-  all-written : longestRun gs < 2 → NormalGroups (normalGroups gs) gs
+  all-written : longestRun gs < 2 → NormalEight (normalGroups gs) gs
   all-written few =
       let m = run-is gs in
-      subst (λ t. NormalGroups t gs) (sym (stays gs (firstRun (longestRun gs) gs) (longestRun gs) m few))
+      subst (λ t. NormalEight t gs) (sym (stays gs (firstRun (longestRun gs) gs) (longestRun gs) m few))
       (whole (hex-groups gs small) long (λ s n r. omega (arith, m .longest s n r)))
 
-  run-shortened : (s n : ℕ) → LeftmostLongest gs s n → 2 ≤ n → NormalGroups (normalGroups gs) gs
+  run-shortened : (s n : ℕ) → LeftmostLongest gs s n → 2 ≤ n → NormalEight (normalGroups gs) gs
   unfolding shortened
   run-shortened s n m two =
       let ws = take s gs in
@@ -163,11 +163,11 @@ module _ (gs : List ℕ) (long : length gs ≡ 8) (small : AllBelow 65536 gs) wh
       let lx : length xs ≡ 8 - (s + n) = omega (arith, length-drop (s + n) gs) in
       let back : ws ++ (replicate n 0 ++ xs) ≡ gs = run-parts gs s n (m .run) in
       let most : LeftmostLongest (ws ++ (replicate n 0 ++ xs)) (length ws) n = rw (back, lw) m in
-      let form : NormalGroups (shortened s n gs) (ws ++ (replicate n 0 ++ xs)) =
+      let form : NormalEight (shortened s n gs) (ws ++ (replicate n 0 ++ xs)) =
       shortened-run {n = n} (hex-groups ws (below-take 65536 s gs small)) (hex-groups xs (below-drop 65536 (s + n) gs small)) two (omega arith) most in
-      subst (λ t. NormalGroups t gs) (sym (shortens gs s n m two)) (subst (NormalGroups (shortened s n gs)) back form)
+      subst (λ t. NormalEight t gs) (sym (shortens gs s n m two)) (subst (NormalEight (shortened s n gs)) back form)
 
-  pub written-form : NormalGroups (normalGroups gs) gs
+  pub written-form : NormalEight (normalGroups gs) gs
   written-form = elim (decLt (longestRun gs) 2) [
     | yes h ↦ all-written h
     | no h ↦ run-shortened (firstRun (longestRun gs) gs) (longestRun gs) (run-is gs) (omega arith)
@@ -177,20 +177,20 @@ module _ (gs : List ℕ) (long : length gs ≡ 8) (small : AllBelow 65536 gs) wh
 
 pub normal-written : {t : List ℕ} {a : Address} → NormalForm t a → normalText a ≡ t
 unfolding normalText
-normal-written (four-parts h) = text-spelling h
-normal-written (eight-groups {t} {a} {b} {c} {d} {e} {f} {g} {h} n) =
+normal-written (of-IPv4 h) = text-spelling h
+normal-written (of-IPv6 {t} {a} {b} {c} {d} {e} {f} {g} {h} n) =
     let gs : List ℕ = a ∷ b ∷ c ∷ d ∷ e ∷ f ∷ g ∷ h ∷ [] in
     ap normalGroups (groups-of-halves gs _ _ refl (form-below n) (eight-address a b c d e f g h)) ∙ form-written n
 
-eight-normal : {t : List ℕ} (gs : List ℕ) → length gs ≡ 8 → NormalGroups t gs → NormalForm t (groupsAddress gs)
+eight-normal : {t : List ℕ} (gs : List ℕ) → length gs ≡ 8 → NormalEight t gs → NormalForm t (groupsAddress gs)
 eight-normal {t} gs l = go (eight-list gs l)
   where
-    go : {gs : List ℕ} → EightList gs → NormalGroups t gs → NormalForm t (groupsAddress gs)
-    go (eight a b c d e f g h) n = subst (NormalForm t) (sym (eight-address a b c d e f g h)) (eight-groups n)
+    go : {gs : List ℕ} → EightList gs → NormalEight t gs → NormalForm t (groupsAddress gs)
+    go (eight a b c d e f g h) n = subst (NormalForm t) (sym (eight-address a b c d e f g h)) (of-IPv6 n)
 
 pub written-normal : (a : Address) → IsAddress a → NormalForm (normalText a) a
 unfolding normalText groupsOf
-written-normal (V4 v) h = four-parts (ipv4 (reads-4 (normalText (V4 v)) (V4 v) (text-read (V4 v) h .1)))
+written-normal (V4 v) h = of-IPv4 (ipv4 (reads-4 (normalText (V4 v)) (V4 v) (text-read (V4 v) h .1)))
   where
     ipv4 : {t : List ℕ} {a : Address} → StrictForm 4 t a → IPv4Text t a
     ipv4 (four i) = i

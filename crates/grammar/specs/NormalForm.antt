@@ -23,25 +23,25 @@ pub data normal-h16 : List ℕ → ℕ → Type 0 where
   only-0 : normal-h16 (0x30 ∷ []) 0
 
 -- groups with single colons between them: none, one, or one and more
-pub data normal-groups : List ℕ → List ℕ → Type 0 where
-  no-group : normal-groups [] []
-  one-group : {t : List ℕ} {x : ℕ} → normal-h16 t x → normal-groups t (x ∷ [])
-  and-more : {t u : List ℕ} {x y : ℕ} {ys : List ℕ} → normal-h16 t x → normal-groups u (y ∷ ys) → normal-groups (t ++ colon ∷ u) (x ∷ y ∷ ys)
+pub data normal-h16s : List ℕ → List ℕ → Type 0 where
+  no-group : normal-h16s [] []
+  one-group : {t : List ℕ} {x : ℕ} → normal-h16 t x → normal-h16s t (x ∷ [])
+  and-more : {t u : List ℕ} {x y : ℕ} {ys : List ℕ} → normal-h16 t x → normal-h16s u (y ∷ ys) → normal-h16s (t ++ colon ∷ u) (x ∷ y ∷ ys)
 
 -- ---- the eight groups
 
-pub data NormalGroups : List ℕ → List ℕ → Type 0 where
+pub data NormalEight : List ℕ → List ℕ → Type 0 where
   -- "A single zero group stays `0`": where no two zero groups stand together, all eight are written
-  whole : {t gs : List ℕ} → normal-groups t gs → length gs ≡ 8 → ((start n : ℕ) → ZeroRun gs start n → n ≤ 1) → NormalGroups t gs
+  whole : {t gs : List ℕ} → normal-h16s t gs → length gs ≡ 8 → ((start n : ℕ) → ZeroRun gs start n → n ≤ 1) → NormalEight t gs
   -- "the longest run of two or more zero groups becomes `::`. Of two runs equally long the leftmost is shortened." (4.2)
-  shortened-run : {s t ws xs : List ℕ} {n : ℕ} → normal-groups s ws → normal-groups t xs → 2 ≤ n → length ws + n + length xs ≡ 8
-      → LeftmostLongest (ws ++ (replicate n 0 ++ xs)) (length ws) n → NormalGroups (s ++ colon ∷ colon ∷ t) (ws ++ (replicate n 0 ++ xs))
+  shortened-run : {s t ws xs : List ℕ} {n : ℕ} → normal-h16s s ws → normal-h16s t xs → 2 ≤ n → length ws + n + length xs ≡ 8
+      → LeftmostLongest (ws ++ (replicate n 0 ++ xs)) (length ws) n → NormalEight (s ++ colon ∷ colon ∷ t) (ws ++ (replicate n 0 ++ xs))
 
 -- ---- the address
 
 pub data NormalForm : List ℕ → Address → Type 0 where
   -- "IPv4: four strict parts"
-  four-parts : {t : List ℕ} {a : Address} → IPv4Text t a → NormalForm t a
+  of-IPv4 : {t : List ℕ} {a : Address} → IPv4Text t a → NormalForm t a
   -- "Hex groups are always written, never the dotted tail."
-  eight-groups : {t : List ℕ} {a b c d e f g h : ℕ} → NormalGroups t (a ∷ b ∷ c ∷ d ∷ e ∷ f ∷ g ∷ h ∷ [])
+  of-IPv6 : {t : List ℕ} {a b c d e f g h : ℕ} → NormalEight t (a ∷ b ∷ c ∷ d ∷ e ∷ f ∷ g ∷ h ∷ [])
       → NormalForm t (V6 (((a * 65536 + b) * 65536 + c) * 65536 + d) (((e * 65536 + f) * 65536 + g) * 65536 + h))
