@@ -1,18 +1,18 @@
 -- What 01, "Classes", and demand 2 ask of splitting and joining. Assumes nothing.
 use mathlib.Core.Logic.{_⊎_, inl, inr, _↔_}
 use mathlib.Core.Path.{_≡_, refl, sym, ap, ap₂, subst, _∙_}
-use mathlib.Core.Option.{some, none}
+use mathlib.Core.Option.{some}
 use Prim.Native.Nat.{ℕ, _+_, _-_, _*_, _/_, _%_, _^_, _≤_, _<_}
-use native.Mathlib.Decide.{decLe, decLt}
+use native.Mathlib.Decide.{decLt}
 use native.Mathlib.Omega.{arith}
 use Rattle.address.specs.declared.Address.{Address}
 use Rattle.address.specs.declared.Address.the-variants.{V4, V6}
-use Rattle.address.specs.declared.Refusal.the-variants.{NoClass, HostTooLarge, WrongFamily}
+use Rattle.address.specs.declared.Refusal.the-variants.{NoClass}
 use Rattle.address.specs.Addresses.{IsAddress, family, number}
-use Rattle.address.specs.Answers.{Answer, gives, refuses, noAddress}
+use Rattle.address.specs.Answers.{Answer, gives, refuses}
 use Rattle.classes.specs.Classes.{Class, classA, classB, classC, classOf, networkClass, hosts, splitAnswer, splittingAnswer, joinAnswer}
-use Rattle.classes.specs.ClassTable.{SplitCall, class-A, class-B, class-C, bits-111, not-IPv4, Row, row-A, row-B, row-C, JoinCall, no-class, host-too-large, joined}
-use Rattle.classes.proofs.ClassLaws.{class-a, class-b, class-c, class-none, split-class, split-none, split-6, network-a, network-b, network-c, network-ab, network-bc, network-above, join-none}
+use Rattle.classes.specs.ClassTable.{SplitCall, class-A, class-B, class-C, bits-111, not-IPv4, Row, JoinCall, no-class, host-too-large, joined}
+use Rattle.classes.proofs.ClassLaws.{class-a, class-b, class-c, split-class}
 use Rattle.classes.proofs.JoinLaws as laws
 use Rattle.classes.proofs.TableLaws.{split-answers, split-call, one-row, join-answers, join-call}
 use Rattle.address.proofs.Claims.{Cases, given, not-given, one-answer}

@@ -25,7 +25,7 @@ use Rattle.text.specs.Strict.{strictOf}
 use Rattle.text.proofs.ByteLaws.{strict-lacks}
 use Rattle.blocks.specs.BlockText.{withLength, blockOf, blockTextAnswer, blockText}
 use Rattle.blocks.proofs.BlockTextLaws.{answer-long, answer-malformed, answer-checked}
-use Rattle.grammar.specs.StrictForm.{IPv4Text, IPv6Text, StrictForm, either-4, either-6}
+use Rattle.grammar.specs.StrictForm.{IPv4Text, StrictForm, either-4}
 use Rattle.grammar.specs.BlockForm.{BlockForm, prefix, BlockCall, too-long, not-block, length-above, bits-beyond, read-block, WrittenBlock, normal-prefix}
 use Rattle.grammar.proofs.OptionLaws.{impossible, nothing-there}
 use Rattle.grammar.proofs.NumberLaws.{size-reads, reads-size, size-999, size-spelling}

@@ -1,6 +1,6 @@
 -- Which bytes stand in a text of a form: digits, separators and the marks of a base alone. Assumes nothing.
-use mathlib.Core.Path.{_≡_, refl, sym, ap, _∙_}
-use mathlib.Core.Bool.{false, cond}
+use mathlib.Core.Path.{_≡_, refl, ap, _∙_}
+use mathlib.Core.Bool.{false}
 use mathlib.Core.List.{List, [], _∷_, _++_}
 use Prim.Native.Nat.{ℕ, _≤_}
 use native.Mathlib.Omega.{arith}
@@ -14,7 +14,7 @@ use Rattle.digits.proofs.SeparatedLaws.{Lacks, lacks-append}
 use Rattle.text.proofs.ByteLaws.{strict-lacks}
 use Rattle.grammar.specs.Rfc3986.{dec-octet, digit-string}
 use Rattle.grammar.specs.LooseForm.{loose-part, after-0x, after-0X, after-0, else-decimal, only-0, LooseForm, a·b·c·d, a·b·c, a·b, only-a}
-use Rattle.grammar.specs.NetworkForm.{half-bytes, decimal-parts, bytes-given, or-decimal, size-part, NetworkForm, with-size, without}
+use Rattle.grammar.specs.NetworkForm.{decimal-parts, bytes-given, or-decimal, size-part, NetworkForm, with-size, without}
 use Rattle.grammar.specs.NetworkForm as net
 use Rattle.grammar.specs.BlockForm.{BlockForm, prefix}
 use Rattle.grammar.proofs.DigitStringLaws.{Same, same-10, same-16, digits-all}

@@ -1,6 +1,6 @@
 -- What is claimed of the published grammar, of normal text and of the loose, network and block forms: reading accepts exactly their texts,
 -- answers what they mean and refuses all others by their numbers, and what is written is the one text of its form. Assumes nothing.
-use mathlib.Core.Path.{_≡_, refl, sym, ap, subst, subst₂, _∙_}
+use mathlib.Core.Path.{_≡_, sym, ap, subst, subst₂, _∙_}
 use mathlib.Core.Bool.{false}
 use mathlib.Core.List.{List, [], _∷_, _++_}
 use mathlib.Core.Logic.{_⊎_, inl, inr, _↔_}
@@ -43,8 +43,8 @@ use Rattle.grammar.specs.NormalForm.{NormalEight, NormalForm}
 use Rattle.grammar.specs.LooseForm.{OCTDIG, loose-part, LooseForm, LooseCall, read-loose}
 use Rattle.grammar.specs.NetworkForm.{slash, bytes-given, size-part, inferred-size, NetworkForm, NetworkCall, read-network, WrittenNetwork, NetworkWriting}
 use Rattle.grammar.specs.BlockForm.{BlockForm, BlockCall, read-block, WrittenBlock}
-use Rattle.grammar.proofs.NumberLaws.{octet-reads, reads-octet, h16-reads, reads-h16, size-reads, reads-size, size-999, size-spelling}
-use Rattle.grammar.proofs.DottedLaws.{address-reads, address-octets, octets-address, one-spelling}
+use Rattle.grammar.proofs.NumberLaws.{octet-reads, reads-octet, h16-reads, reads-h16, size-reads, reads-size, size-999}
+use Rattle.grammar.proofs.DottedLaws.{address-reads, address-octets, octets-address}
 use Rattle.grammar.proofs.GrammarLaws.{grammar-reads, reads-grammar}
 use Rattle.grammar.proofs.LengthLaws as lengths
 use Rattle.grammar.proofs.CallLaws.{answers-exactly, refuses-exactly}

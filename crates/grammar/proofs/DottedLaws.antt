@@ -3,14 +3,14 @@ use mathlib.Core.Path.{_≡_, refl, sym, ap, ap₂, subst, subst₂, _∙_}
 use mathlib.Core.Bool.{Bool, true, false, cond}
 use mathlib.Core.List.{List, [], _∷_, map}
 use mathlib.Core.Option.{some}
-use Prim.Native.Nat.{ℕ, zero, suc, _+_, _-_, _*_, _/_, _%_, _<_}
+use Prim.Native.Nat.{ℕ, _+_, _-_, _*_, _/_, _%_, _<_}
 use native.Mathlib.Omega.{arith}
-use borrow.Author.Tests.{lt-ltb, eqb-true}
+use borrow.Author.Tests.{eqb-true}
 use lib.Dec.{eqb, lit<}
 use lib.ListN.{length}
 use Rattle.octets.specs.BigEndian.{AllBelow, digitsOf, numberOf}
 use Rattle.octets.proofs.DigitLaws.{number-digits}
-use Rattle.digits.specs.Numerals.{partOf, digitByte, trimmed, numeral, decimal}
+use Rattle.digits.specs.Numerals.{partOf, decimal}
 use Rattle.digits.specs.Pieces.{onFirst, splitOn, separated}
 use Rattle.digits.proofs.PieceLaws.{split-first}
 use Rattle.digits.proofs.SeparatedLaws.{separated-cons}

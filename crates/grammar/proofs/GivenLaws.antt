@@ -9,7 +9,7 @@ use borrow.Author.Tests.{le-leb, leb-true, lt-ltb, eqb-true}
 use lib.Dec.{leb, eqb, lit≤}
 use lib.ListN.{length}
 use Rattle.digits.specs.Numerals.{digitOf, allDigits, partOf, decimal}
-use Rattle.digits.specs.Pieces.{contains, splitOn, separated}
+use Rattle.digits.specs.Pieces.{splitOn, separated}
 use Rattle.digits.proofs.NumeralLaws.{no-digit, part-digits}
 use Rattle.digits.proofs.MarkLaws.{not-marked}
 use Rattle.digits.proofs.SeparatedLaws.{Lacks, lacks-separated}

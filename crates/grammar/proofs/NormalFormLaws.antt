@@ -3,18 +3,18 @@ use mathlib.Core.Path.{_≡_, refl, sym, ap, ap₂, subst, _∙_}
 use mathlib.Core.Bool.{false}
 use mathlib.Core.List.{List, [], _∷_, _++_, map}
 use mathlib.Core.Option.{some}
-use Prim.Native.Nat.{ℕ, zero, suc, _+_, _-_, _*_, _≤_, _<_}
+use Prim.Native.Nat.{ℕ, _+_, _-_, _*_, _≤_, _<_}
 use native.Mathlib.Decide.{decLe, decLt, ℕ-discrete}
 use native.Mathlib.Omega.{arith}
 use borrow.Author.Tests.{le-leb, lt-leb, ne-eqb, eqb-false}
-use lib.Dec.{leb, lit<, lit≤}
-use lib.ListN.{length, take, drop, replicate, length-append, length-replicate, length-drop, take-append-drop}
-use lib.Seq.{length-take-le, take-append-seam, drop-append-seam, drop-append-add, take-at, drop-at, drop-drop}
+use lib.Dec.{lit<, lit≤}
+use lib.ListN.{length, take, drop, replicate, length-replicate, length-drop, take-append-drop}
+use lib.Seq.{length-take-le, take-append-seam, drop-append-add, drop-at, drop-drop}
 use Rattle.address.specs.declared.Address.{Address}
 use Rattle.address.specs.declared.Address.the-variants.{V4, V6}
 use Rattle.address.specs.Addresses.{IsAddress, number}
 use Rattle.octets.specs.BigEndian.{AllBelow}
-use Rattle.octets.proofs.DigitLaws.{digits-length, digits-below, below-take, below-drop, below-append, zeros-below, four-number}
+use Rattle.octets.proofs.DigitLaws.{digits-length, digits-below, below-take, below-drop, below-append, zeros-below}
 use Rattle.address_groups.specs.Groups.{groupsOf, groupsAddress}
 use Rattle.address_groups.proofs.Claims.{halves-of-groups, groups-of-halves}
 use Rattle.digits.specs.Numerals.{digitOf, allDigits, leadingZero, numeral, hex, lower, groupOf}
@@ -26,7 +26,7 @@ use Rattle.zero_runs.proofs.RunLaws.{run-is}
 use Rattle.normal.specs.Normal.{groupsText, shortened, normalGroups, normalText}
 use Rattle.normal.proofs.Claims.{shortens, stays}
 use Rattle.normal.proofs.ReadBackLaws.{text-read}
-use Rattle.grammar.specs.Rfc3986.{HEXDIG, digit-string, h16, 1*4HEXDIG}
+use Rattle.grammar.specs.Rfc3986.{h16, 1*4HEXDIG}
 use Rattle.grammar.specs.StrictForm.{IPv4Text, StrictForm, four}
 use Rattle.grammar.specs.NormalForm.{no-capital, no-byte, and-byte, normal-h16, no-leading-0, only-0, normal-h16s, no-group, one-group, and-more, NormalEight, whole, shortened-run, NormalForm, of-IPv4, of-IPv6}
 use Rattle.grammar.proofs.OptionLaws.{same-value}

@@ -1,5 +1,5 @@
 -- Texts that are of a form, and texts that are of none, computed (01, "Specimens on both sides"; documents 000 and 003). Assumes nothing.
-use mathlib.Core.Path.{_≡_, refl, sym, ap, subst, subst₂, _∙_}
+use mathlib.Core.Path.{_≡_, refl, sym, ap, _∙_}
 use mathlib.Core.List.{List, [], _∷_}
 use mathlib.Core.Bool.{Bool, true, _&&_, and-eq-true-iff, false≢true}
 use mathlib.Core.Option.{Option, some}

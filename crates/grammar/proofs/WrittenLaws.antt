@@ -1,18 +1,16 @@
 -- Network text that is written: the form has one text, and the writer's answers. Assumes nothing.
 use mathlib.Core.Path.{_≡_, refl, sym, ap, ap₂, subst, subst₂, _∙_}
 use mathlib.Core.List.{List, [], _∷_, _++_, map}
-use mathlib.Core.Option.{some}
 use Prim.Native.Nat.{ℕ, zero, suc, _+_, _-_, _*_, _/_, _%_, _^_, _≤_, _<_, max}
 use native.Mathlib.Decide.{decLe}
 use native.Mathlib.Omega.{arith}
-use borrow.Author.Tests.{lt-ltb, le-ltb}
 use lib.Dec.{lit<}
 use lib.ListN.{length, take, drop}
 use lib.Pow.{split}
 use lib.Seq.{length-take-le}
 use Rattle.address.specs.declared.Address.{Address}
 use Rattle.address.specs.declared.Address.the-variants.{V4, V6}
-use Rattle.address.specs.Addresses.{IsAddress, family, number}
+use Rattle.address.specs.Addresses.{IsAddress, number}
 use Rattle.address.specs.Answers.{Answer, writeAnswer, writeLeaves}
 use Rattle.address.proofs.AnswerLaws.{write-short, write-fits}
 use Rattle.octets.specs.BigEndian.{digitsOf}
@@ -27,7 +25,7 @@ use Rattle.dotted.proofs.DottedLaws.{parts-spelling}
 use Rattle.network_text.specs.NetworkText.{sizeBytes, cleared, networkText, writeReasons}
 use Rattle.network_text.proofs.TextLaws.{cleared-high, write-6, write-large, write-sized}
 use Rattle.network.proofs.Claims.{cleared-bits, kept-bits, size-zero}
-use Rattle.grammar.specs.NetworkForm.{slash, decimal-parts, a·b·c·d, a·b·c, a·b, only-a, size-part, rounded-up, eighths, bits-cleared, clears, WrittenNetwork, first-bytes, size-0, NetworkWriting, wrong-family, size-above, text-above, written-network}
+use Rattle.grammar.specs.NetworkForm.{decimal-parts, a·b·c·d, a·b·c, a·b, only-a, size-part, rounded-up, eighths, bits-cleared, clears, WrittenNetwork, first-bytes, size-0, NetworkWriting, wrong-family, size-above, text-above, written-network}
 use Rattle.grammar.proofs.NumberLaws.{reads-size, size-spelling}
 use Rattle.grammar.proofs.GivenLaws.{reads-parts, parts-spelling-4}
 

@@ -7,7 +7,7 @@ use native.Mathlib.Omega.{arith}
 use lib.ListN.{length, drop, length-append}
 use Rattle.digits.proofs.SeparatedLaws.{Lacks}
 use Rattle.range_text.specs.RangeText.{lineText}
-use Rattle.range_text.specs.LineForm.{newline, Free, AllFree, ended, Line, RangeLine, FewestLines}
+use Rattle.range_text.specs.LineForm.{newline, AllFree, ended, RangeLine, FewestLines}
 use Rattle.range_text.proofs.Claims as range
 use Rattle.range_text.proofs.LineFormLaws.{free-lacks, first-byte}
 use Rattle.range_text.proofs.LineReadLaws.{line-free}
