@@ -19,9 +19,9 @@ use Rattle.digits.specs.Pieces.{indexOf}
 use Rattle.digits.specs.Numerals.{within, digitOf, allDigits, textNumber, boundedNumber, hexMarked, leading}
 use Rattle.digits.proofs.NumeralLaws.{Digits, read-number, read-digits, number-bound, digit-values}
 use Rattle.digits.proofs.PieceLaws.{ReadsDigits, index-le, at-most-says, bounded-reads, piece-nothing, piece-last, piece-more, piece-other}
-use Rattle.dotted.specs.declared.Parts.the-variants.{Numbers, NotParts}
-use Rattle.dotted.specs.Dotted.{partsOf, asParts}
-use Rattle.dotted.proofs.DottedLaws.{Octets, numbers-says, not-parts-says, parts-are}
+use Rattle.ipv4_text.specs.declared.Parts.the-variants.{Numbers, NotParts}
+use Rattle.ipv4_text.specs.Dotted.{partsOf, asParts}
+use Rattle.ipv4_text.proofs.DottedLaws.{Octets, numbers-says, not-parts-says, parts-are}
 use Rattle.given.specs.declared.Given.the-variants.{Bytes, NotGiven}
 use Rattle.given.specs.GivenBytes.{halfBytes, hexBytes, givenOf, zeroFilled, beforeSlash, asGiven}
 

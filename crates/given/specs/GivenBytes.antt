@@ -7,7 +7,7 @@ use lib.ListN.{length, take, drop, replicate}
 use Rattle.octets.specs.BigEndian.{numberOf}
 use Rattle.digits.specs.Numerals.{within, digitOf, allDigits, hexMarked}
 use Rattle.digits.specs.Pieces.{indexOf}
-use Rattle.dotted.specs.Dotted.{partsOf}
+use Rattle.ipv4_text.specs.Dotted.{partsOf}
 use Rattle.given.specs.declared.Given.{Given}
 use Rattle.given.specs.declared.Given.the-variants.{Bytes, NotGiven}
 

@@ -4,14 +4,14 @@ ghost use mathlib.Core.Bool.{_||_};
 ghost use lib.Dec.{leb, eqb};
 ghost use lib.ListN.{length, getD};
 ghost use Rattle.digits.specs.Pieces.{indexOf};
-ghost use Rattle.dotted.specs.Dotted.{partsOf};
+ghost use Rattle.ipv4_text.specs.Dotted.{partsOf};
 ghost use Rattle.given.specs.GivenBytes.{hexBytes, givenOf, beforeSlash, asGiven};
 use digits::read::Leading;
 use digits::read::find;
 use digits::read::hex_marked;
 use digits::read::leading_number;
-use dotted::Parts;
-use dotted::read_parts;
+use ipv4_text::Parts;
+use ipv4_text::read_parts;
 
 // The bytes as the first octets of a number whose other octets are zero, how many they are, and the index of the slash, or the
 // text's length where there is none.

@@ -24,8 +24,8 @@ use Rattle.octets.specs.BigEndian.{AllBelow, digitsOf, numberOf}
 use Rattle.octets.specs.Octets.{octets}
 use Rattle.digits.specs.Numerals.{digitOf, partOf, groupOf}
 use Rattle.digits.specs.Pieces.{contains}
-use Rattle.dotted.specs.Dotted.{dottedOf}
-use Rattle.groups.specs.EightGroups.{eightOf}
+use Rattle.ipv4_text.specs.Dotted.{dottedOf}
+use Rattle.ipv6_text.specs.EightGroups.{eightOf}
 use Rattle.text.specs.Strict.{strictOf, strictAnswer}
 use Rattle.normal.specs.Normal.{normalGroups, normalText}
 use Rattle.normal.proofs.Claims as normal

@@ -14,9 +14,9 @@ use Rattle.digits.specs.Numerals.{partOf, decimal}
 use Rattle.digits.specs.Pieces.{onFirst, splitOn, separated}
 use Rattle.digits.proofs.PieceLaws.{split-first}
 use Rattle.digits.proofs.SeparatedLaws.{separated-cons}
-use Rattle.dotted.specs.Dotted.{every, dottedOf, dottedText}
-use Rattle.dotted.proofs.EveryLaws.{Reads, done, more, every-reads, part-octet}
-use Rattle.dotted.proofs.DottedLaws.{dotted-octets}
+use Rattle.ipv4_text.specs.Dotted.{every, dottedOf, dottedText}
+use Rattle.ipv4_text.proofs.EveryLaws.{Reads, done, more, every-reads, part-octet}
+use Rattle.ipv4_text.proofs.DottedLaws.{dotted-octets}
 use Rattle.text.proofs.SpellingLaws.{dotted-spelling}
 use Rattle.grammar.specs.Rfc3986.{IPv4address, four-octets}
 use Rattle.grammar.proofs.NumberLaws.{octet-reads, reads-octet, octet-spelling}

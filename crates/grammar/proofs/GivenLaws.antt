@@ -13,9 +13,9 @@ use Rattle.digits.specs.Pieces.{splitOn, separated}
 use Rattle.digits.proofs.NumeralLaws.{no-digit, part-digits}
 use Rattle.digits.proofs.MarkLaws.{not-marked}
 use Rattle.digits.proofs.SeparatedLaws.{Lacks, lacks-separated}
-use Rattle.dotted.specs.Dotted.{partsOf}
-use Rattle.dotted.proofs.EveryLaws.{Reads, done, more, every-reads, reads-each, reads-so}
-use Rattle.dotted.proofs.DottedLaws.{parts-are, parts-spelling}
+use Rattle.ipv4_text.specs.Dotted.{partsOf}
+use Rattle.ipv4_text.proofs.EveryLaws.{Reads, done, more, every-reads, reads-each, reads-so}
+use Rattle.ipv4_text.proofs.DottedLaws.{parts-are, parts-spelling}
 use Rattle.given.specs.GivenBytes.{halfBytes, hexBytes, givenOf}
 use Rattle.grammar.specs.NetworkForm.{half-bytes, no-digits, odd-digit, two-digits, decimal-parts, bytes-given, after-0x, after-0X, or-decimal, a·b·c·d, a·b·c, a·b, only-a}
 use Rattle.grammar.proofs.NumberLaws.{octet-reads, reads-octet, octet-spelling}

@@ -6,7 +6,7 @@ use mathlib.Core.Option.{some}
 use Prim.Native.Nat.{ℕ, zero, suc, _+_, _-_, _≤_, _<_}
 use native.Mathlib.Omega.{arith}
 use lib.ListN.{length, length-append}
-use Rattle.groups.specs.EightGroups.{eightOf}
+use Rattle.ipv6_text.specs.EightGroups.{eightOf}
 use Rattle.grammar.specs.Rfc3986.{h16, ls32, h16:h16, IPv4-tail, n-h16:, zero-times, once-more, up-to, left-out, there, with-zeros, IPv6address, alternative-1, alternative-2, alternative-3, alternative-4, alternative-5, alternative-6, alternative-7, alternative-8, alternative-9}
 use Rattle.grammar.proofs.SideLaws.{Run, last, tail, next, Side, nothing, groups}
 use Rattle.grammar.proofs.EightLaws.{Eight, full, around, eight-reads, reads-eight}

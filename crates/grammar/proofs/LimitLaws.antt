@@ -12,7 +12,7 @@ use Rattle.octets.specs.Octets.{octets}
 use Rattle.octets.proofs.DigitLaws.{four-digits}
 use Rattle.octets.proofs.OctetLaws.{octets-4}
 use Rattle.digits.specs.Pieces.{separated}
-use Rattle.dotted.proofs.EveryLaws.{Reads, done, more}
+use Rattle.ipv4_text.proofs.EveryLaws.{Reads, done, more}
 use Rattle.loose.specs.Loose.{loosePart, octetsFrom}
 use Rattle.loose.proofs.LooseLaws.{addressAfter}
 use Rattle.loose.proofs.FormLaws.{one-part, two-parts, three-parts, four-parts, no-fifth}

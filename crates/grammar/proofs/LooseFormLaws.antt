@@ -19,8 +19,8 @@ use Rattle.octets.proofs.DigitLaws.{four-number}
 use Rattle.digits.specs.Numerals.{digitOf}
 use Rattle.digits.specs.Pieces.{splitOn, separated}
 use Rattle.digits.proofs.SeparatedLaws.{split-separated}
-use Rattle.dotted.specs.Dotted.{every}
-use Rattle.dotted.proofs.EveryLaws.{Reads, done, more, every-reads, reads-each, reads-so}
+use Rattle.ipv4_text.specs.Dotted.{every}
+use Rattle.ipv4_text.proofs.EveryLaws.{Reads, done, more, every-reads, reads-each, reads-so}
 use Rattle.loose.specs.Loose.{loosePart, octetsFrom, combined, looseOf, looseAnswer}
 use Rattle.loose.proofs.LooseLaws.{addressAfter, loose-long, loose-read, loose-refused}
 use Rattle.loose.proofs.Claims.{strict-is-loose}

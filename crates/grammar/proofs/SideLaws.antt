@@ -14,9 +14,9 @@ use Rattle.digits.specs.Pieces.{splitOn, separated}
 use Rattle.digits.proofs.NumeralLaws.{no-digit, group-digits}
 use Rattle.digits.proofs.PieceLaws.{split-first, part-most}
 use Rattle.digits.proofs.SeparatedLaws.{Lacks, lacks-cons, split-lacks}
-use Rattle.dotted.specs.Dotted.{joined, single, dottedOf}
-use Rattle.groups.specs.EightGroups.{orElse, tailOf, piecesOf, sideOf, gapOf}
-use Rattle.groups.proofs.ColonLaws.{dotted-no-colon}
+use Rattle.ipv4_text.specs.Dotted.{joined, single, dottedOf}
+use Rattle.ipv6_text.specs.EightGroups.{orElse, tailOf, piecesOf, sideOf, gapOf}
+use Rattle.ipv6_text.proofs.ColonLaws.{dotted-no-colon}
 use Rattle.text.proofs.SpellingLaws.{gap-piece}
 use Rattle.grammar.specs.Rfc3986.{IPv4address, four-octets, h16}
 use Rattle.grammar.proofs.OptionLaws.{impossible}

@@ -13,7 +13,7 @@ use Rattle.address.specs.Answers.{Answer, gives, refuses, missing, noBlock}
 use Rattle.digits.specs.Ascii.{ascii}
 use Rattle.digits.specs.Numerals.{digitOf, allDigits, partOf, groupOf}
 use Rattle.digits.specs.Pieces.{splitOn}
-use Rattle.dotted.specs.Dotted.{every}
+use Rattle.ipv4_text.specs.Dotted.{every}
 use Rattle.text.specs.Strict.{strictOf}
 use Rattle.loose.specs.Loose.{looseOf}
 use Rattle.network.specs.Network.{networkAnswer, networkLeaves}

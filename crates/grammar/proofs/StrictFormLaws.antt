@@ -18,9 +18,9 @@ use Rattle.address.proofs.Claims.{gives-one, gives-refuses}
 use Rattle.octets.specs.BigEndian.{digitsOf, numberOf}
 use Rattle.octets.proofs.DigitLaws.{four-number}
 use Rattle.address_groups.specs.Groups.{groupsAddress}
-use Rattle.dotted.specs.Dotted.{dottedOf, dottedText}
-use Rattle.groups.specs.EightGroups.{orElse, eightOf}
-use Rattle.groups.proofs.ColonLaws.{colon-not-dotted}
+use Rattle.ipv4_text.specs.Dotted.{dottedOf, dottedText}
+use Rattle.ipv6_text.specs.EightGroups.{orElse, eightOf}
+use Rattle.ipv6_text.proofs.ColonLaws.{colon-not-dotted}
 use Rattle.text.specs.Inner.{asReading}
 use Rattle.text.specs.Strict.{strictOf, knownFamily, strictAnswer}
 use Rattle.text.proofs.FamilyLaws.{eight-colon}

@@ -20,8 +20,8 @@ use Rattle.octets.proofs.OctetLaws.{octets-4}
 use Rattle.digits.specs.Numerals.{decimal}
 use Rattle.digits.specs.Pieces.{separated}
 use Rattle.digits.proofs.NumeralLaws.{decimal-part}
-use Rattle.dotted.proofs.EveryLaws.{every-decimal}
-use Rattle.dotted.proofs.DottedLaws.{parts-spelling}
+use Rattle.ipv4_text.proofs.EveryLaws.{every-decimal}
+use Rattle.ipv4_text.proofs.DottedLaws.{parts-spelling}
 use Rattle.network_text.specs.NetworkText.{sizeBytes, cleared, networkText, writeReasons}
 use Rattle.network_text.proofs.TextLaws.{cleared-high, write-6, write-large, write-sized}
 use Rattle.network.proofs.Claims.{cleared-bits, kept-bits, size-zero}

@@ -6,7 +6,7 @@ use Prim.Native.Nat.{ℕ}
 use Rattle.address.specs.declared.Address.{Address}
 use Rattle.address.specs.declared.Address.the-variants.{V4}
 use Rattle.address.specs.Addresses.{IsAddress}
-use Rattle.dotted.specs.Dotted.{dottedOf}
+use Rattle.ipv4_text.specs.Dotted.{dottedOf}
 use Rattle.loose.specs.Loose.{looseOf}
 use Rattle.loose.proofs.MeaningLaws.{loose-address, strict-loose}
 

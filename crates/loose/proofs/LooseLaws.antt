@@ -25,7 +25,7 @@ use Rattle.digits.specs.Numerals.{atMost}
 use Rattle.digits.specs.Pieces.{indexOf, splitOn}
 use Rattle.digits.proofs.PieceLaws.{at-most-says, split-found, split-last, split-first}
 use Rattle.digits.proofs.SliceLaws.{to-end}
-use Rattle.dotted.specs.Dotted.{joined, single, every}
+use Rattle.ipv4_text.specs.Dotted.{joined, single, every}
 use Rattle.loose.specs.Inner.{leadingLoose}
 use Rattle.loose.specs.Loose.{loosePart, octetsFrom, combined, looseOf, looseAnswer}
 use Rattle.loose.proofs.PartLaws.{first, firstPart, found-nothing, found-last, found-more, found-other}

@@ -17,9 +17,9 @@ use Rattle.octets.proofs.DigitLaws.{digits-below, digits-length, number-below}
 use Rattle.digits.specs.Numerals.{digitOf, allDigits, textNumber, boundedNumber, leadingZero, partOf}
 use Rattle.digits.specs.Pieces.{splitOn}
 use Rattle.digits.proofs.PieceLaws.{at-most-says}
-use Rattle.dotted.specs.Dotted.{every, dottedOf}
-use Rattle.dotted.proofs.DottedLaws.{dotted-octets}
-use Rattle.dotted.proofs.EveryLaws.{every-reads, reads-so}
+use Rattle.ipv4_text.specs.Dotted.{every, dottedOf}
+use Rattle.ipv4_text.proofs.DottedLaws.{dotted-octets}
+use Rattle.ipv4_text.proofs.EveryLaws.{every-reads, reads-so}
 use Rattle.loose.specs.Loose.{loosePart, octetsFrom, combined, looseOf}
 
 -- ---- octets

@@ -11,7 +11,7 @@ use Rattle.address.specs.Answers.{Answer, readAnswer, noAddress}
 use Rattle.octets.specs.BigEndian.{digitsOf, numberOf}
 use Rattle.digits.specs.Numerals.{hexMarked, textNumber}
 use Rattle.digits.specs.Pieces.{splitOn}
-use Rattle.dotted.specs.Dotted.{every}
+use Rattle.ipv4_text.specs.Dotted.{every}
 
 -- the digit 0 comes first
 unfoldable pub startsZero : List ℕ → Bool

@@ -26,7 +26,7 @@ use Rattle.digits.specs.Numerals.{partOf, asLeading}
 use Rattle.digits.specs.Pieces.{indexOf}
 use Rattle.digits.proofs.PieceLaws.{index-contains, index-lacks, as-number, as-nothing}
 use Rattle.digits.proofs.SliceLaws.{tail, to-end}
-use Rattle.dotted.proofs.DottedLaws.{Octets}
+use Rattle.ipv4_text.proofs.DottedLaws.{Octets}
 use Rattle.given.specs.declared.Given.the-variants.{Bytes, NotGiven}
 use Rattle.given.specs.GivenBytes.{givenOf, zeroFilled, beforeSlash, asGiven}
 use Rattle.network_text.specs.NetworkText.{sizeBytes}

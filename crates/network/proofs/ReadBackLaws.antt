@@ -19,8 +19,8 @@ use Rattle.digits.specs.Pieces.{separated}
 use Rattle.digits.proofs.NumeralLaws.{decimal-part}
 use Rattle.digits.proofs.MarkLaws.{not-marked}
 use Rattle.digits.proofs.SeparatedLaws.{Lacks, seam, numerals-lack}
-use Rattle.dotted.proofs.DottedLaws.{parts-spelling}
-use Rattle.dotted.proofs.EveryLaws.{every-decimal}
+use Rattle.ipv4_text.proofs.DottedLaws.{parts-spelling}
+use Rattle.ipv4_text.proofs.EveryLaws.{every-decimal}
 use Rattle.given.specs.GivenBytes.{givenOf, zeroFilled}
 use Rattle.network_text.specs.NetworkText.{sizeBytes, cleared, networkText}
 use Rattle.network_text.proofs.TextLaws.{cleared-high, text-most}

@@ -15,7 +15,7 @@ use Rattle.octets.specs.BigEndian.{digitsOf}
 use Rattle.address_groups.specs.Groups.{groupsOf}
 use Rattle.octets.proofs.DigitLaws.{digits-length}
 use Rattle.digits.proofs.SeparatedLaws.{numerals-most}
-use Rattle.dotted.specs.Dotted.{dottedText}
+use Rattle.ipv4_text.specs.Dotted.{dottedText}
 use Rattle.zero_runs.specs.Runs.{longestRun, firstRun}
 use Rattle.normal.specs.Normal.{groupsText, shortened, normalGroups, normalText}
 use Rattle.zero_runs.proofs.RunLaws.{run-is}

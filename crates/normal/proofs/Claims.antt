@@ -18,14 +18,14 @@ use Rattle.address.proofs.AnswerLaws.{read-held}
 use Rattle.octets.specs.BigEndian.{AllBelow}
 use Rattle.digits.specs.Numerals.{digitOf, groupOf, lower}
 use Rattle.digits.specs.Pieces.{contains, separated}
-use Rattle.groups.specs.EightGroups.{eightOf}
+use Rattle.ipv6_text.specs.EightGroups.{eightOf}
 use Rattle.text.specs.Strict.{strictOf, strictAnswer}
 use Rattle.text.proofs.CaseLaws.{lower-strict}
 use Rattle.text.proofs.FamilyLaws.{no-colon-4, colon-6}
 use Rattle.text.proofs.ByteLaws.{strict-lacks}
 use Rattle.text.proofs.MeaningLaws.{strict-address}
 use Rattle.text.proofs.SpellingLaws.{eight-spelling, gap-spelling}
-use Rattle.dotted.specs.Dotted.{every}
+use Rattle.ipv4_text.specs.Dotted.{every}
 use Rattle.zero_runs.specs.Runs.{ZeroRun, LeftmostLongest, longestRun, firstRun}
 use Rattle.normal.specs.Normal.{groupsText, shortened, normalGroups, normalText}
 use Rattle.normal.proofs.BoundLaws.{text-4-most, text-6-most}

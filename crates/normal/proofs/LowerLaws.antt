@@ -12,7 +12,7 @@ use Rattle.octets.specs.BigEndian.{digitsOf}
 use Rattle.digits.specs.Numerals.{numeral, lower}
 use Rattle.digits.specs.Pieces.{separated}
 use Rattle.digits.proofs.NumeralLaws.{numeral-lower}
-use Rattle.dotted.specs.Dotted.{dottedText}
+use Rattle.ipv4_text.specs.Dotted.{dottedText}
 use Rattle.zero_runs.specs.Runs.{longestRun, firstRun}
 use Rattle.normal.specs.Normal.{groupsText, shortened, normalGroups, normalText}
 

@@ -21,13 +21,13 @@ use Rattle.digits.specs.Numerals.{digitOf, groupOf, decimal, hex}
 use Rattle.digits.specs.Pieces.{contains}
 use Rattle.digits.proofs.NumeralLaws.{hex-group}
 use Rattle.digits.proofs.SeparatedLaws.{Lacks, lacks-append, numerals-lack}
-use Rattle.groups.specs.EightGroups.{eightOf}
+use Rattle.ipv6_text.specs.EightGroups.{eightOf}
 use Rattle.text.specs.Strict.{strictOf, strictAnswer}
-use Rattle.groups.proofs.ColonLaws.{colon-not-dotted}
+use Rattle.ipv6_text.proofs.ColonLaws.{colon-not-dotted}
 use Rattle.text.proofs.FamilyLaws.{eight-colon}
 use Rattle.text.proofs.SpellingLaws.{dotted-spelling, eight-spelling, gap-spelling}
-use Rattle.dotted.specs.Dotted.{dottedText, every, dottedOf}
-use Rattle.dotted.proofs.EveryLaws.{every-written, every-decimal}
+use Rattle.ipv4_text.specs.Dotted.{dottedText, every, dottedOf}
+use Rattle.ipv4_text.proofs.EveryLaws.{every-written, every-decimal}
 use Rattle.zero_runs.specs.Runs.{ZeroRun, longestRun, firstRun}
 use Rattle.normal.specs.Normal.{groupsText, shortened, normalGroups, normalText}
 use Rattle.zero_runs.proofs.RunLaws.{run-is}

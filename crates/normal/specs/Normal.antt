@@ -9,7 +9,7 @@ use Rattle.address.specs.declared.Address.the-variants.{V4, V6}
 use Rattle.address_groups.specs.Groups.{groupsOf}
 use Rattle.digits.specs.Numerals.{hex}
 use Rattle.digits.specs.Pieces.{separated}
-use Rattle.dotted.specs.Dotted.{dottedText}
+use Rattle.ipv4_text.specs.Dotted.{dottedText}
 use Rattle.zero_runs.specs.Runs.{longestRun, firstRun}
 
 -- groups in "lower case, no leading zeros in a group", with single colons between them

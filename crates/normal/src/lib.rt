@@ -8,7 +8,7 @@ use address::Address;
 use address::Writing;
 use address_groups::groups;
 use build::put_eight;
-use dotted::put_dotted;
+use ipv4_text::put_dotted;
 use store::store;
 
 mod build;

@@ -3,7 +3,7 @@ use mathlib.Core.Path.{refl}
 use Rattle.address_groups.specs.Groups.{groupsOf, groupsAddress}
 use Rattle.digits.specs.Ascii.{ascii}
 use Rattle.digits.specs.Numerals.{groupOf, numeral}
-use Rattle.dotted.specs.Dotted.{dottedText}
+use Rattle.ipv4_text.specs.Dotted.{dottedText}
 use Rattle.text.specs.Strict.{strictAnswer}
 use Rattle.zero_runs.specs.Runs.{zerosOf}
 use Rattle.normal.specs.Normal.{normalText}

@@ -16,9 +16,9 @@ use Rattle.digits.specs.Numerals.{digitOf, groupOf}
 use Rattle.digits.specs.Pieces.{contains, splitOn}
 use Rattle.digits.proofs.NumeralLaws.{no-digit, group-digits}
 use Rattle.digits.proofs.SeparatedLaws.{Lacks, Each, lacks-cons, lacks-split}
-use Rattle.dotted.specs.Dotted.{joined, single, dottedOf}
-use Rattle.groups.specs.EightGroups.{orElse, tailOf, piecesOf, sideOf, gapOf, filled, eight, eightOf}
-use Rattle.groups.proofs.ColonLaws.{dotted-lacks}
+use Rattle.ipv4_text.specs.Dotted.{joined, single, dottedOf}
+use Rattle.ipv6_text.specs.EightGroups.{orElse, tailOf, piecesOf, sideOf, gapOf, filled, eight, eightOf}
+use Rattle.ipv6_text.proofs.ColonLaws.{dotted-lacks}
 use Rattle.text.specs.Strict.{strictOf}
 
 nothing : {A : Type 0} {a : A} {P : Type 0} → none ≡ some a → P

@@ -9,8 +9,8 @@ use lib.ListN.{take, drop, length-map}
 use Rattle.digits.specs.Numerals.{lower, digitOf, allDigits, textNumber, leadingZero, partOf, groupOf}
 use Rattle.digits.specs.Pieces.{onFirst, splitOn}
 use Rattle.digits.proofs.NumeralLaws.{lower-digit, lower-same}
-use Rattle.dotted.specs.Dotted.{every, dottedOf}
-use Rattle.groups.specs.EightGroups.{piecesOf, sideOf, gapOf, eightOf}
+use Rattle.ipv4_text.specs.Dotted.{every, dottedOf}
+use Rattle.ipv6_text.specs.EightGroups.{piecesOf, sideOf, gapOf, eightOf}
 use Rattle.text.specs.Strict.{strictOf}
 
 -- ---- numbers

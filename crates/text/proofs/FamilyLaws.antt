@@ -14,10 +14,10 @@ use Rattle.address_groups.specs.Groups.{groupsAddress}
 use Rattle.digits.specs.Numerals.{groupOf}
 use Rattle.digits.specs.Pieces.{contains}
 use Rattle.digits.proofs.SeparatedLaws.{Lacks, split-lacks}
-use Rattle.dotted.specs.Dotted.{single, dottedOf}
-use Rattle.groups.specs.EightGroups.{orElse, piecesOf, gapOf, eight, eightOf}
+use Rattle.ipv4_text.specs.Dotted.{single, dottedOf}
+use Rattle.ipv6_text.specs.EightGroups.{orElse, piecesOf, gapOf, eight, eightOf}
 use Rattle.text.specs.Strict.{strictOf}
-use Rattle.groups.proofs.ColonLaws.{dotted-no-colon}
+use Rattle.ipv6_text.proofs.ColonLaws.{dotted-no-colon}
 use Rattle.text.proofs.SpellingLaws.{gap-piece}
 
 -- ---- IPv6

@@ -18,10 +18,10 @@ use Rattle.octets.proofs.DigitLaws.{below-append, zeros-below, digits-below, nu
 use Rattle.digits.specs.Numerals.{groupOf}
 use Rattle.digits.specs.Pieces.{splitOn}
 use Rattle.digits.proofs.NumeralLaws.{group-digits}
-use Rattle.dotted.specs.Dotted.{joined, single, dottedOf}
-use Rattle.groups.specs.EightGroups.{orElse, tailOf, piecesOf, sideOf, gapOf, filled, eight, eightOf}
+use Rattle.ipv4_text.specs.Dotted.{joined, single, dottedOf}
+use Rattle.ipv6_text.specs.EightGroups.{orElse, tailOf, piecesOf, sideOf, gapOf, filled, eight, eightOf}
 use Rattle.text.specs.Strict.{strictOf}
-use Rattle.dotted.proofs.DottedLaws.{dotted-octets}
+use Rattle.ipv4_text.proofs.DottedLaws.{dotted-octets}
 
 -- ---- groups
 

@@ -14,9 +14,9 @@ use Rattle.digits.specs.Numerals.{digitOf, partOf, groupOf}
 use Rattle.digits.specs.Pieces.{separated, splitOn}
 use Rattle.digits.proofs.NumeralLaws.{no-digit, group-digits}
 use Rattle.digits.proofs.SeparatedLaws.{Lacks, Each, lacks-cons, split-separated, separated-cons}
-use Rattle.dotted.specs.Dotted.{single, every, dottedOf}
-use Rattle.dotted.proofs.EveryLaws.{Reads, done, more, every-reads, reads-each, reads-length, part-lacks}
-use Rattle.groups.specs.EightGroups.{piecesOf, sideOf, gapOf, eightOf}
+use Rattle.ipv4_text.specs.Dotted.{single, every, dottedOf}
+use Rattle.ipv4_text.proofs.EveryLaws.{Reads, done, more, every-reads, reads-each, reads-length, part-lacks}
+use Rattle.ipv6_text.specs.EightGroups.{piecesOf, sideOf, gapOf, eightOf}
 
 -- ---- IPv4
 

@@ -14,9 +14,9 @@ use Rattle.address.specs.declared.Refusal.{Refusal}
 use Rattle.address.specs.declared.Refusal.the-variants.{TextTooLong, WrongFamily}
 use Rattle.address.specs.Answers.{refuses, noAddress, readingAnswer, readAnswer}
 use Rattle.address_groups.specs.Groups.{groupsAddress}
-use Rattle.dotted.specs.Dotted.{dottedOf}
+use Rattle.ipv4_text.specs.Dotted.{dottedOf}
 use Rattle.text.specs.Inner.{asReading}
-use Rattle.groups.specs.EightGroups.{orElse, eightOf}
+use Rattle.ipv6_text.specs.EightGroups.{orElse, eightOf}
 use Rattle.text.specs.Strict.{strictOf, knownFamily, strictAnswer}
 
 -- what an answer says of the definition

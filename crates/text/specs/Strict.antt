@@ -9,8 +9,8 @@ use Rattle.address.specs.declared.Address.{Address}
 use Rattle.address.specs.declared.Address.the-variants.{V4}
 use Rattle.address.specs.Answers.{Answer, readAnswer, noAddress}
 use Rattle.address_groups.specs.Groups.{groupsAddress}
-use Rattle.dotted.specs.Dotted.{dottedOf}
-use Rattle.groups.specs.EightGroups.{orElse, eightOf}
+use Rattle.ipv4_text.specs.Dotted.{dottedOf}
+use Rattle.ipv6_text.specs.EightGroups.{orElse, eightOf}
 
 -- the address of a strict text of family 4, of family 6, or else of either
 unfoldable pub strictOf : ℕ → List ℕ → Option Address

@@ -4,17 +4,17 @@ ghost use mathlib.Core.Option.{Option·map};
 ghost use Rattle.address.specs.Answers.{readingAnswer};
 ghost use Rattle.address.specs.declared.Address.the-variants.{V4};
 ghost use Rattle.address_groups.specs.Groups.{groupsAddress};
-ghost use Rattle.dotted.specs.Dotted.{dottedOf};
+ghost use Rattle.ipv4_text.specs.Dotted.{dottedOf};
 ghost use Rattle.text.specs.Inner.{asReading};
-ghost use Rattle.groups.specs.EightGroups.{orElse, eightOf};
+ghost use Rattle.ipv6_text.specs.EightGroups.{orElse, eightOf};
 ghost use Rattle.text.specs.Strict.{knownFamily, strictAnswer};
 use address::Address;
 use address::Reading;
 use address::Refusal;
 use address_groups::from_groups;
-use dotted::Dotted;
-use dotted::read_dotted;
-use groups::read_eight;
+use ipv4_text::Dotted;
+use ipv4_text::read_dotted;
+use ipv6_text::read_eight;
 
 fn read_ipv4(text: &[u8]) -> Reading
     ensures { λ r. ⌜ r ≡ asReading (Option·map V4 (dottedOf (now (text .entry)))) ⌝ }

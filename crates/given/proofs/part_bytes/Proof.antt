@@ -7,8 +7,8 @@ use lib.ListN.{take}
 use lib.Seq.{length-take-le}
 use Rattle.digits.specs.Pieces.{indexOf}
 use Rattle.digits.proofs.PieceLaws.{index-le}
-use Rattle.dotted.specs.declared.Parts.the-variants.{Numbers}
-use Rattle.dotted.specs.Dotted.{partsOf, asParts}
+use Rattle.ipv4_text.specs.declared.Parts.the-variants.{Numbers}
+use Rattle.ipv4_text.specs.Dotted.{partsOf, asParts}
 use Rattle.given.specs.GivenBytes.{beforeSlash, asGiven}
 use Rattle.given.proofs.GivenLaws.{parts-nothing, parts-count, parts-number}
 use Rattle.given.proofs.part_bytes.Statement.{statement}

@@ -15,7 +15,7 @@ use Rattle.address.specs.Answers.{refuses, noAddress, readAnswer}
 use Rattle.digits.specs.declared.read.Leading.the-variants.{Number}
 use Rattle.digits.specs.Pieces.{splitOn}
 use Rattle.digits.proofs.SliceLaws.{to-end-shorter}
-use Rattle.dotted.proofs.DottedLaws.{room}
+use Rattle.ipv4_text.proofs.DottedLaws.{room}
 use Rattle.loose.specs.Inner.{leadingLoose}
 use Rattle.loose.specs.Loose.{looseOf, looseAnswer}
 use Rattle.loose.proofs.LooseLaws.{looseFrom, loose-start, loose-nothing, loose-other, loose-end, loose-more, loose-large, loose-over, loose-long, loose-read, loose-refused}

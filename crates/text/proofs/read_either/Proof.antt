@@ -4,7 +4,7 @@ use mathlib.Core.Option.{Option·map}
 use borrow.Author.Needs.{needs}
 use denote.Ref.{now}
 use Rattle.address.specs.declared.Address.the-variants.{V4}
-use Rattle.dotted.specs.Dotted.{dottedOf}
+use Rattle.ipv4_text.specs.Dotted.{dottedOf}
 use Rattle.text.proofs.StrictLaws.{read-says, refused-says}
 use Rattle.text.proofs.read_either.Statement.{statement}
 use Rattle.text.proofs.read_either.Tie as tie

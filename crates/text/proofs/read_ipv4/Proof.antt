@@ -2,8 +2,8 @@
 use mathlib.Core.Path.{sym, _∙_}
 use borrow.Author.Needs.{needs}
 use denote.Ref.{now}
-use Rattle.dotted.specs.Dotted.{dottedOf}
-use Rattle.dotted.proofs.DottedLaws.{value-says, not-says}
+use Rattle.ipv4_text.specs.Dotted.{dottedOf}
+use Rattle.ipv4_text.proofs.DottedLaws.{value-says, not-says}
 use Rattle.text.proofs.read_ipv4.Statement.{statement}
 use Rattle.text.proofs.read_ipv4.Tie as tie
 

@@ -7,8 +7,8 @@ use denote.Ref.{now}
 use borrow.Author.Tests.{not-true, not-false}
 use borrow.Author.Needs.{needs}
 use Rattle.address.specs.declared.Reading.the-variants.{Read}
-use Rattle.groups.specs.EightGroups.{eightOf}
-use Rattle.groups.proofs.EightLaws.{eight-none, eight-some}
+use Rattle.ipv6_text.specs.EightGroups.{eightOf}
+use Rattle.ipv6_text.proofs.EightLaws.{eight-none, eight-some}
 use Rattle.text.proofs.read_ipv6.Statement.{statement}
 use Rattle.text.proofs.read_ipv6.Tie as tie
 
