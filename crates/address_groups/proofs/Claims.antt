@@ -4,9 +4,9 @@ use mathlib.Core.List.{List}
 use Prim.Native.Nat.{ℕ, _^_, _<_}
 use lib.Dec.{lit<}
 use lib.ListN.{length, take, drop}
+use Rattle.notation.specs.BigEndian.{AllBelow, numberOf}
+use Rattle.notation.proofs.DigitLaws.{halves-number, halves-digits}
 use Rattle.address.specs.declared.Address.the-variants.{V6}
-use Rattle.octets.specs.BigEndian.{AllBelow, numberOf}
-use Rattle.octets.proofs.DigitLaws.{halves-number, halves-digits}
 use Rattle.address_groups.specs.Groups.{groupsOf, groupsAddress}
 
 -- The groups of two halves give the halves back, and the halves of eight groups the groups.

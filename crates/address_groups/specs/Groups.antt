@@ -1,10 +1,10 @@
 -- The eight groups of an IPv6 address, as one value (01, "What the register needs now"). Assumes nothing.
 use mathlib.Core.List.{List}
 use Prim.Native.Nat.{ℕ}
+use Rattle.notation.specs.BigEndian.{digitsOf, numberOf}
 use Rattle.address.specs.declared.Address.{Address}
 use Rattle.address.specs.declared.Address.the-variants.{V6}
 use Rattle.address.specs.Addresses.{number}
-use Rattle.octets.specs.BigEndian.{digitsOf, numberOf}
 use Rattle.octets.specs.Octets.{halves}
 
 -- the groups of the address with these halves

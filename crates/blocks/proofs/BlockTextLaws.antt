@@ -9,6 +9,9 @@ use borrow.Author.Tests.{lt-ltb, le-ltb}
 use lib.Dec.{lit≤, lit<}
 use lib.ListN.{length, take, length-append}
 use lib.Seq.{length-take-le}
+use Rattle.notation.specs.Pieces.{indexOf}
+use Rattle.notation.proofs.PieceLaws.{index-contains, index-lacks}
+use Rattle.notation.proofs.SliceLaws.{tail, to-end}
 use Rattle.address.specs.declared.Address.{Address}
 use Rattle.address.specs.declared.Address.the-variants.{V4, V6}
 use Rattle.address.specs.declared.Block.{Block}
@@ -22,10 +25,8 @@ use Rattle.address.specs.Blocks.{blockReasons}
 use Rattle.address.proofs.Claims.{one-reading}
 use Rattle.digits.specs.declared.read.Leading.the-variants.{Number, Nothing}
 use Rattle.digits.specs.Numerals.{partOf, asLeading, decimal}
-use Rattle.digits.specs.Pieces.{indexOf}
 use Rattle.digits.proofs.NumeralLaws.{numeral-length}
-use Rattle.digits.proofs.PieceLaws.{index-contains, index-lacks, as-number, as-nothing}
-use Rattle.digits.proofs.SliceLaws.{tail, to-end}
+use Rattle.digits.proofs.FirstPieceLaws.{as-number, as-nothing}
 use Rattle.text.specs.Inner.{asReading}
 use Rattle.text.specs.Strict.{strictOf, strictAnswer}
 use Rattle.text.proofs.StrictLaws.{read-says, refused-says, strict-read}

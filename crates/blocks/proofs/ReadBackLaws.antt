@@ -5,6 +5,8 @@ use mathlib.Core.Option.{some}
 use Prim.Native.Nat.{ℕ, _≤_}
 use native.Mathlib.Omega.{arith}
 use lib.ListN.{length}
+use Rattle.notation.specs.Pieces.{Lacks}
+use Rattle.notation.proofs.SeparatedLaws.{seam}
 use Rattle.address.specs.declared.Address.{Address}
 use Rattle.address.specs.declared.Block.{Block}
 use Rattle.address.specs.Addresses.{IsAddress}
@@ -13,7 +15,6 @@ use Rattle.address.specs.Blocks.{blockRefusal}
 use Rattle.address.proofs.BlockLaws.{read-valid}
 use Rattle.digits.specs.Numerals.{decimal, partOf}
 use Rattle.digits.proofs.NumeralLaws.{decimal-part}
-use Rattle.digits.proofs.SeparatedLaws.{Lacks, seam}
 use Rattle.text.specs.Strict.{strictOf}
 use Rattle.normal.specs.Normal.{normalText}
 use Rattle.normal.proofs.ReadBackLaws.{text-read, text-lacks-slash}

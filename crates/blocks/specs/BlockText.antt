@@ -5,12 +5,12 @@ use mathlib.Core.Option.{Option, some, none, Option·getD}
 use Prim.Native.Nat.{ℕ, suc}
 use lib.Dec.{ltb}
 use lib.ListN.{length, take, drop}
+use Rattle.notation.specs.Pieces.{contains, indexOf}
 use Rattle.address.specs.declared.Address.{Address}
 use Rattle.address.specs.declared.Block.{Block}
 use Rattle.address.specs.Answers.{Answer, readAnswer, noBlock}
 use Rattle.address.specs.Blocks.{blockReasons}
 use Rattle.digits.specs.Numerals.{partOf, decimal}
-use Rattle.digits.specs.Pieces.{contains, indexOf}
 use Rattle.text.specs.Strict.{strictOf}
 use Rattle.normal.specs.Normal.{normalText}
 

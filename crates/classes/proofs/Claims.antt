@@ -10,14 +10,14 @@ use Rattle.address.specs.declared.Address.the-variants.{V4, V6}
 use Rattle.address.specs.declared.Refusal.the-variants.{NoClass}
 use Rattle.address.specs.Addresses.{IsAddress, family, number}
 use Rattle.address.specs.Answers.{Answer, gives, refuses}
+use Rattle.address.proofs.Claims.{Cases, given, not-given, one-answer}
 use Rattle.classes.specs.Classes.{Class, classA, classB, classC, classOf, networkClass, hosts, splitAnswer, splittingAnswer, joinAnswer}
 use Rattle.classes.specs.ClassTable.{SplitCall, class-A, class-B, class-C, bits-111, not-IPv4, Row, JoinCall, no-class, host-too-large, joined}
+use Rattle.classes.specs.declared.Splitting.{Splitting}
+use Rattle.classes.specs.declared.Splitting.the-variants.{NetworkHost, Refused}
 use Rattle.classes.proofs.ClassLaws.{class-a, class-b, class-c, split-class}
 use Rattle.classes.proofs.JoinLaws as laws
 use Rattle.classes.proofs.TableLaws.{split-answers, split-call, one-row, join-answers, join-call}
-use Rattle.address.proofs.Claims.{Cases, given, not-given, one-answer}
-use Rattle.classes.specs.declared.Splitting.{Splitting}
-use Rattle.classes.specs.declared.Splitting.the-variants.{NetworkHost, Refused}
 
 -- ---- there and back
 

@@ -11,8 +11,8 @@ use borrow.Author.Tests.{leb-true, eqb-true, le-leb, lt-leb, eq-eqb}
 use lib.Dec.{leb, eqb}
 use lib.Pow.{pow-pos, pow-mono}
 use Rattle.wide.proofs.Aligned.{Aligned, aligned-mono, aligned-nothing}
-use Rattle.cover.proofs.Greatest.{greatest-le, greatest-passes, greatest-max}
 use Rattle.cover.specs.Blocks.{Block, IsBlock, Fewest, Range, mayStart, largest, blocksFrom, rangeBlocks, Next, Greedy, done, next, size, end}
+use Rattle.cover.proofs.Greatest.{greatest-le, greatest-passes, greatest-max}
 use Rattle.cover.proofs.Interval.{covers→within, covers-last}
 use Rattle.cover.proofs.Greedy.{greedy-lower, greedy-fewest}
 

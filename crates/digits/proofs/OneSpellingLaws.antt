@@ -9,8 +9,8 @@ use native.Mathlib.Omega.{arith}
 use borrow.Author.Tests.{lt-ltb, le-leb, lt-leb, eq-eqb}
 use lib.Dec.{ltb, eqb}
 use lib.ListN.{length, replicate, length-map}
-use Rattle.octets.specs.BigEndian.{AllBelow, digitsOf, numberOf}
-use Rattle.octets.proofs.DigitLaws.{digits-split, digits-zero, number-digits, number-lt}
+use Rattle.notation.specs.BigEndian.{AllBelow, digitsOf, numberOf}
+use Rattle.notation.proofs.DigitLaws.{digits-split, digits-zero, number-digits, number-lt}
 use Rattle.digits.specs.Numerals.{digitOf, leadingZero, digitByte, trimmed, numeral, lower}
 use Rattle.digits.proofs.NumeralLaws.{agree, agreed, Digits, digit-values, lower-same}
 

@@ -12,13 +12,15 @@ use lib.Dec.{leb, eqb, lit≤}
 use lib.ListN.{length, take, drop, getD, replicate, length-append, length-replicate, length-map}
 use lib.Pow.{shl-exact}
 use lib.Seq.{length-take-le}
-use Rattle.octets.specs.BigEndian.{AllBelow, numberFrom, numberOf}
-use Rattle.octets.proofs.DigitLaws.{number-append, number-lt, bits-power, zeros-number}
+use Rattle.notation.specs.BigEndian.{AllBelow, numberFrom, numberOf}
+use Rattle.notation.specs.Pieces.{indexOf}
+use Rattle.notation.specs.Ascii.{within}
+use Rattle.notation.proofs.DigitLaws.{number-append, number-lt, bits-power, zeros-number}
+use Rattle.notation.proofs.PieceLaws.{index-le}
 use Rattle.digits.specs.declared.read.Leading.the-variants.{Number, Nothing}
-use Rattle.digits.specs.Pieces.{indexOf}
-use Rattle.digits.specs.Numerals.{within, digitOf, allDigits, textNumber, boundedNumber, hexMarked, leading}
+use Rattle.digits.specs.Numerals.{digitOf, allDigits, textNumber, boundedNumber, hexMarked, leading}
 use Rattle.digits.proofs.NumeralLaws.{Digits, read-number, read-digits, number-bound, digit-values}
-use Rattle.digits.proofs.PieceLaws.{ReadsDigits, index-le, at-most-says, bounded-reads, piece-nothing, piece-last, piece-more, piece-other}
+use Rattle.digits.proofs.FirstPieceLaws.{ReadsDigits, at-most-says, bounded-reads, piece-nothing, piece-last, piece-more, piece-other}
 use Rattle.ipv4_text.specs.declared.Parts.the-variants.{Numbers, NotParts}
 use Rattle.ipv4_text.specs.Dotted.{partsOf, asParts}
 use Rattle.ipv4_text.proofs.DottedLaws.{Octets, numbers-says, not-parts-says, parts-are}

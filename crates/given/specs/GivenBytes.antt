@@ -4,9 +4,10 @@ use mathlib.Core.List.{List, [], _∷_, _++_, map}
 use mathlib.Core.Option.{Option, some, none}
 use Prim.Native.Nat.{ℕ, _+_, _-_, _*_}
 use lib.ListN.{length, take, drop, replicate}
-use Rattle.octets.specs.BigEndian.{numberOf}
-use Rattle.digits.specs.Numerals.{within, digitOf, allDigits, hexMarked}
-use Rattle.digits.specs.Pieces.{indexOf}
+use Rattle.notation.specs.BigEndian.{numberOf}
+use Rattle.notation.specs.Ascii.{within}
+use Rattle.notation.specs.Pieces.{indexOf}
+use Rattle.digits.specs.Numerals.{digitOf, allDigits, hexMarked}
 use Rattle.ipv4_text.specs.Dotted.{partsOf}
 use Rattle.given.specs.declared.Given.{Given}
 use Rattle.given.specs.declared.Given.the-variants.{Bytes, NotGiven}

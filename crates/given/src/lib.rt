@@ -3,7 +3,7 @@ ghost use mathlib.Core.Path.{_≡_};
 ghost use mathlib.Core.Bool.{_||_};
 ghost use lib.Dec.{leb, eqb};
 ghost use lib.ListN.{length, getD};
-ghost use Rattle.digits.specs.Pieces.{indexOf};
+ghost use Rattle.notation.specs.Pieces.{indexOf};
 ghost use Rattle.ipv4_text.specs.Dotted.{partsOf};
 ghost use Rattle.given.specs.GivenBytes.{hexBytes, givenOf, beforeSlash, asGiven};
 use digits::read::Leading;

@@ -3,11 +3,14 @@ use mathlib.Core.Path.{_≡_, refl, sym, ap, ap₂, subst, _∙_}
 use mathlib.Core.Bool.{Bool, true, false, cond}
 use mathlib.Core.List.{List, _∷_, _++_}
 use mathlib.Core.Option.{Option, some, none}
-use Prim.Native.Nat.{ℕ, suc, _-_, _%_, _^_, _≤_, _<_}
+use Prim.Native.Nat.{ℕ, suc, _-_, _%_, _^_, _≤_}
 use native.Mathlib.Decide.{decLe, ℕ-discrete}
 use native.Mathlib.Omega.{arith}
 use borrow.Author.Tests.{eq-eqb, ne-eqb}
 use lib.ListN.{length, take, drop}
+use Rattle.notation.specs.Pieces.{contains, indexOf, Lacks}
+use Rattle.notation.proofs.SeparatedLaws.{seam}
+use Rattle.notation.proofs.OptionLaws.{impossible, nothing-there}
 use Rattle.address.specs.declared.Address.{Address}
 use Rattle.address.specs.declared.Address.the-variants.{V4}
 use Rattle.address.specs.declared.Block.{Block}
@@ -19,15 +22,12 @@ use Rattle.address.proofs.BlockLaws.{refusal-length, refusal-bits, refusal-none
 use Rattle.address.proofs.Claims.{gives-one, gives-refuses}
 use Rattle.digits.specs.Numerals.{digitOf, partOf, decimal}
 use Rattle.digits.proofs.NumeralLaws.{decimal-part}
-use Rattle.digits.specs.Pieces.{contains, indexOf}
-use Rattle.digits.proofs.SeparatedLaws.{Lacks, seam}
 use Rattle.text.specs.Strict.{strictOf}
 use Rattle.text.proofs.ByteLaws.{strict-lacks}
 use Rattle.blocks.specs.BlockText.{withLength, blockOf, blockTextAnswer, blockText}
 use Rattle.blocks.proofs.BlockTextLaws.{answer-long, answer-malformed, answer-checked}
 use Rattle.grammar.specs.StrictForm.{IPv4Text, StrictForm, either-4}
 use Rattle.grammar.specs.BlockForm.{BlockForm, prefix, BlockCall, too-long, not-block, length-above, bits-beyond, read-block, WrittenBlock, normal-prefix}
-use Rattle.grammar.proofs.OptionLaws.{impossible, nothing-there}
 use Rattle.grammar.proofs.NumberLaws.{size-reads, reads-size, size-999, size-spelling}
 use Rattle.grammar.proofs.LengthLaws.{block-most}
 use Rattle.grammar.proofs.StrictFormLaws.{form-reads, reads-0, text-spelling}

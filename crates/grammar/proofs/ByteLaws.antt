@@ -6,11 +6,11 @@ use Prim.Native.Nat.{ℕ, _≤_}
 use native.Mathlib.Omega.{arith}
 use borrow.Author.Tests.{ne-eqb}
 use lib.Dec.{eqb, lit≤}
+use Rattle.notation.specs.Pieces.{contains, Lacks}
+use Rattle.notation.proofs.SeparatedLaws.{lacks-append}
 use Rattle.address.specs.declared.Address.{Address}
 use Rattle.digits.specs.Numerals.{digitOf}
-use Rattle.digits.specs.Pieces.{contains}
 use Rattle.digits.proofs.NumeralLaws.{no-digit, part-digits}
-use Rattle.digits.proofs.SeparatedLaws.{Lacks, lacks-append}
 use Rattle.text.proofs.ByteLaws.{strict-lacks}
 use Rattle.grammar.specs.Rfc3986.{dec-octet, digit-string}
 use Rattle.grammar.specs.LooseForm.{loose-part, after-0x, after-0X, after-0, else-decimal, only-0, LooseForm, a·b·c·d, a·b·c, a·b, only-a}

@@ -9,6 +9,8 @@ use Prim.Native.Nat.{ℕ, _+_, _-_, _*_, _/_, _%_, _^_, _≤_, _<_}
 use native.Mathlib.Omega.{arith}
 use lib.Dec.{eqb}
 use lib.ListN.{length, drop, replicate}
+use Rattle.notation.specs.BigEndian.{AllBelow, digitsOf, numberOf}
+use Rattle.notation.specs.Pieces.{contains}
 use Rattle.address.specs.declared.Address.{Address}
 use Rattle.address.specs.declared.Address.the-variants.{V4}
 use Rattle.address.specs.declared.Block.{Block}
@@ -20,10 +22,8 @@ use Rattle.address.specs.Addresses.{IsAddress, family, width, number}
 use Rattle.address.specs.Answers.{Answer, gives, refuses, refusalNumber, noAddress, noBlock, readAnswer, writeAnswer, writeLeaves, readingAnswer, blockAnswer, writingAnswer}
 use Rattle.address.specs.declared.Writing.{Writing}
 use Rattle.address.proofs.Claims.{one-reading}
-use Rattle.octets.specs.BigEndian.{AllBelow, digitsOf, numberOf}
 use Rattle.octets.specs.Octets.{octets}
 use Rattle.digits.specs.Numerals.{digitOf, partOf, groupOf}
-use Rattle.digits.specs.Pieces.{contains}
 use Rattle.ipv4_text.specs.Dotted.{dottedOf}
 use Rattle.ipv6_text.specs.EightGroups.{eightOf}
 use Rattle.text.specs.Strict.{strictOf, strictAnswer}

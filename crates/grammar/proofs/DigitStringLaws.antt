@@ -10,9 +10,10 @@ use native.Mathlib.Omega.{arith}
 use borrow.Author.Tests.{leb-true, le-leb, lt-leb, lt-ltb, ltb-true}
 use lib.Dec.{leb, ltb}
 use lib.ListN.{length, length-append, replicate}
-use Rattle.octets.specs.BigEndian.{numberFrom, numberOf}
-use Rattle.octets.proofs.DigitLaws.{from-append}
-use Rattle.digits.specs.Numerals.{within, digitOf, allDigits, textNumber}
+use Rattle.notation.specs.BigEndian.{numberFrom, numberOf}
+use Rattle.notation.specs.Ascii.{within}
+use Rattle.notation.proofs.DigitLaws.{from-append}
+use Rattle.digits.specs.Numerals.{digitOf, allDigits, textNumber}
 use Rattle.digits.proofs.NumeralLaws.{Digits, read-number, read-digits}
 use Rattle.grammar.specs.Rfc3986.{DIGIT, x30-39, HEXDIG, digit, A-F, a-f, digit-string, one, and-one}
 

@@ -3,19 +3,21 @@ use mathlib.Core.Path.{_≡_, refl, sym, ap, ap₂, subst, subst₂, _∙_}
 use mathlib.Core.Bool.{Bool, true, false, cond}
 use mathlib.Core.List.{List, [], _∷_, map}
 use mathlib.Core.Option.{some}
-use Prim.Native.Nat.{ℕ, _+_, _-_, _*_, _/_, _%_, _<_}
+use Prim.Native.Nat.{ℕ, _<_}
 use native.Mathlib.Omega.{arith}
 use borrow.Author.Tests.{eqb-true}
 use lib.Dec.{eqb, lit<}
 use lib.ListN.{length}
-use Rattle.octets.specs.BigEndian.{AllBelow, digitsOf, numberOf}
-use Rattle.octets.proofs.DigitLaws.{number-digits}
+use Rattle.notation.specs.BigEndian.{AllBelow, digitsOf, numberOf}
+use Rattle.notation.specs.Pieces.{onFirst, splitOn, separated}
+use Rattle.notation.specs.Options.{every}
+use Rattle.notation.proofs.DigitLaws.{number-digits}
+use Rattle.notation.proofs.PieceLaws.{split-first}
+use Rattle.notation.proofs.SeparatedLaws.{separated-cons}
+use Rattle.notation.proofs.EveryLaws.{Reads, done, more, every-reads}
 use Rattle.digits.specs.Numerals.{partOf, decimal}
-use Rattle.digits.specs.Pieces.{onFirst, splitOn, separated}
-use Rattle.digits.proofs.PieceLaws.{split-first}
-use Rattle.digits.proofs.SeparatedLaws.{separated-cons}
-use Rattle.ipv4_text.specs.Dotted.{every, dottedOf, dottedText}
-use Rattle.ipv4_text.proofs.EveryLaws.{Reads, done, more, every-reads, part-octet}
+use Rattle.ipv4_text.specs.Dotted.{dottedOf, dottedText}
+use Rattle.ipv4_text.proofs.PartLaws.{part-octet}
 use Rattle.ipv4_text.proofs.DottedLaws.{dotted-octets}
 use Rattle.text.proofs.SpellingLaws.{dotted-spelling}
 use Rattle.grammar.specs.Rfc3986.{IPv4address, four-octets}

@@ -9,9 +9,9 @@ use borrow.Author.Tests.{eq-eqb, eqb-true, le-leb, leb-true, lt-ltb, le-ltb, ltb
 use lib.Dec.{eqb, leb, ltb}
 use lib.ListN.{length, take, drop, replicate, length-append, length-replicate}
 use lib.Seq.{take-append-seam, drop-append-add}
+use Rattle.notation.proofs.OptionLaws.{impossible}
 use Rattle.ipv6_text.specs.EightGroups.{sideOf, gapOf, filled, eight, eightOf}
 use Rattle.grammar.specs.Rfc3986.{with-zeros}
-use Rattle.grammar.proofs.OptionLaws.{impossible}
 use Rattle.grammar.proofs.SideLaws.{Run, Side, nothing, groups, side-reads, reads-side, side-gap}
 
 pub data Eight : List ℕ → List ℕ → Type 0 where

@@ -1,4 +1,4 @@
--- OptionLaws: what is there, and what is not. CallLaws: a call and the family of its answers.
+-- CallLaws: a call and the family of its answers.
 -- Strict text. DigitStringLaws: digits and strings of digits, as the rules have them and as they are read. NumberLaws: octets, sizes and
 -- groups, and their one spelling. DottedLaws: IPv4 text. SideLaws: the groups on one side of `::`. EightLaws: both sides. GrammarLaws: the
 -- nine alternatives. LengthLaws: how long a text can be. StrictFormLaws: the families asked for, and what reading answers. NormalFormLaws: the
@@ -8,7 +8,6 @@
 -- NetworkCallLaws: what an answer says of the text. WrittenLaws: the text that is written, and what writing answers.
 -- Block text. BlockFormLaws: the form, what reading answers, and what is written. ByteLaws: which bytes stand in a text.
 -- Claims: what is claimed of all. Specimens: texts of each form, and texts of none.
-pub mod OptionLaws
 pub mod CallLaws
 pub mod DigitStringLaws
 pub mod NumberLaws

@@ -6,19 +6,19 @@ use mathlib.Core.Option.{some}
 use Prim.Native.Nat.{ℕ, suc, _+_, _*_, _/_, _%_, _^_, _≤_, _<_}
 use native.Mathlib.Omega.{arith}
 use lib.ListN.{length, replicate}
+use Rattle.notation.specs.Pieces.{separated}
+use Rattle.notation.proofs.DigitLaws.{four-digits}
+use Rattle.notation.proofs.EveryLaws.{Reads, done, more}
+use Rattle.notation.proofs.OptionLaws.{impossible, same-value}
 use Rattle.address.specs.declared.Address.{Address}
 use Rattle.address.specs.declared.Address.the-variants.{V4}
 use Rattle.octets.specs.Octets.{octets}
-use Rattle.octets.proofs.DigitLaws.{four-digits}
 use Rattle.octets.proofs.OctetLaws.{octets-4}
-use Rattle.digits.specs.Pieces.{separated}
-use Rattle.ipv4_text.proofs.EveryLaws.{Reads, done, more}
 use Rattle.loose.specs.Loose.{loosePart, octetsFrom}
 use Rattle.loose.proofs.LooseLaws.{addressAfter}
 use Rattle.loose.proofs.FormLaws.{one-part, two-parts, three-parts, four-parts, no-fifth}
 use Rattle.grammar.specs.Rfc3986.{HEXDIG, digit, x30-39, digit-string}
 use Rattle.grammar.specs.LooseForm.{OCTDIG, x30-37, loose-part, after-0x, after-0X, after-0, LooseForm, a·b·c·d, a·b·c, a·b, only-a}
-use Rattle.grammar.proofs.OptionLaws.{impossible, same-value}
 use Rattle.grammar.proofs.DigitStringLaws.{same-16, zeros-before}
 use Rattle.grammar.proofs.LoosePartLaws.{same-8, part-reads}
 use Rattle.grammar.proofs.LooseFormLaws.{loose-pieces, form-reads, kept}

@@ -9,18 +9,19 @@ use native.Mathlib.Omega.{arith}
 use borrow.Author.Tests.{lt-ltb, ltb-true}
 use lib.Dec.{ltb}
 use lib.ListN.{length}
+use Rattle.notation.specs.BigEndian.{numberOf}
+use Rattle.notation.specs.Pieces.{splitOn, separated}
+use Rattle.notation.specs.Options.{every}
+use Rattle.notation.proofs.DigitLaws.{four-number}
+use Rattle.notation.proofs.SeparatedLaws.{split-separated}
+use Rattle.notation.proofs.EveryLaws.{Reads, done, more, every-reads, reads-each, reads-so}
+use Rattle.notation.proofs.OptionLaws.{impossible, same-value, nothing-there}
 use Rattle.address.specs.declared.Address.{Address}
 use Rattle.address.specs.declared.Address.the-variants.{V4}
 use Rattle.address.specs.declared.Refusal.the-variants.{TextTooLong, Malformed}
 use Rattle.address.specs.Answers.{Answer, gives, noAddress, readAnswer}
 use Rattle.address.proofs.Claims.{gives-one, gives-refuses}
-use Rattle.octets.specs.BigEndian.{numberOf}
-use Rattle.octets.proofs.DigitLaws.{four-number}
 use Rattle.digits.specs.Numerals.{digitOf}
-use Rattle.digits.specs.Pieces.{splitOn, separated}
-use Rattle.digits.proofs.SeparatedLaws.{split-separated}
-use Rattle.ipv4_text.specs.Dotted.{every}
-use Rattle.ipv4_text.proofs.EveryLaws.{Reads, done, more, every-reads, reads-each, reads-so}
 use Rattle.loose.specs.Loose.{loosePart, octetsFrom, combined, looseOf, looseAnswer}
 use Rattle.loose.proofs.LooseLaws.{addressAfter, loose-long, loose-read, loose-refused}
 use Rattle.loose.proofs.Claims.{strict-is-loose}
@@ -28,7 +29,6 @@ use Rattle.loose.proofs.FormLaws.{one-part, two-parts, three-parts, four-parts,
 use Rattle.grammar.specs.LooseForm.{LooseForm, a·b·c·d, a·b·c, a·b, only-a, LooseCall, too-long, not-loose, read-loose}
 use Rattle.grammar.specs.StrictForm.{IPv4Text, of-octets}
 use Rattle.grammar.proofs.DottedLaws.{separated-split, address-reads}
-use Rattle.grammar.proofs.OptionLaws.{impossible, same-value, nothing-there}
 use Rattle.grammar.proofs.LoosePartLaws.{part-reads, reads-part}
 use Rattle.grammar.proofs.ByteLaws.{part-lacks}
 

@@ -1,20 +1,20 @@
 -- One part of a loose text: what the form has is what is read. Assumes nothing.
 use mathlib.Core.Path.{_≡_, refl, sym, ap, subst, _∙_}
 use mathlib.Core.Bool.{Bool, true, false, cond, _&&_, _||_}
-use mathlib.Core.List.{List, [], _∷_, _++_}
+use mathlib.Core.List.{List, [], _∷_}
 use mathlib.Core.Option.{some}
-use Prim.Native.Nat.{ℕ, _+_, _*_, _≤_, _<_}
+use Prim.Native.Nat.{ℕ, _≤_, _<_}
 use native.Mathlib.Omega.{arith}
 use borrow.Author.Tests.{ne-eqb, eqb-true, eqb-false}
 use lib.Dec.{eqb}
 use lib.ListN.{length, drop}
-use Rattle.octets.specs.BigEndian.{numberOf}
+use Rattle.notation.specs.BigEndian.{numberOf}
+use Rattle.notation.proofs.OptionLaws.{impossible}
 use Rattle.digits.specs.Numerals.{digitOf, allDigits, textNumber, hexMarked}
 use Rattle.digits.proofs.NumeralLaws.{Digits, read-digits}
 use Rattle.loose.specs.Loose.{loosePart}
 use Rattle.grammar.specs.Rfc3986.{DIGIT}
 use Rattle.grammar.specs.LooseForm.{OCTDIG, x30-37, loose-part, after-0x, after-0X, after-0, else-decimal, only-0}
-use Rattle.grammar.proofs.OptionLaws.{impossible}
 use Rattle.grammar.proofs.DigitStringLaws.{byte, digit-value, is-digit, bounds, all-cons, Same, same-10, same-16, digits-all, digits-read, reads-digits}
 
 -- ---- octal digits

@@ -9,11 +9,12 @@ use native.Mathlib.Omega.{arith}
 use borrow.Author.Tests.{le-leb, lt-leb, lt-ltb, le-ltb, eqb-true}
 use lib.Dec.{leb, eqb}
 use lib.ListN.{length, take, drop, replicate}
+use Rattle.notation.specs.Pieces.{contains, indexOf, Lacks}
+use Rattle.notation.proofs.SeparatedLaws.{seam}
+use Rattle.notation.proofs.OptionLaws.{impossible, nothing-there}
 use Rattle.address.specs.declared.Refusal.the-variants.{Malformed, LengthTooLarge, NoRoom}
 use Rattle.address.specs.Answers.{Answer, answer, gives, refuses, refusal, writeRefusal, writeLeaves}
 use Rattle.digits.specs.Numerals.{digitOf, partOf}
-use Rattle.digits.specs.Pieces.{contains, indexOf}
-use Rattle.digits.proofs.SeparatedLaws.{Lacks, seam}
 use Rattle.given.specs.GivenBytes.{givenOf, zeroFilled, beforeSlash}
 use Rattle.given.proofs.GivenLaws.{given-octets}
 use Rattle.network_text.specs.NetworkText.{sizeBytes}
@@ -22,7 +23,6 @@ use Rattle.network.proofs.NetworkLaws.{answer-long, answer-stored}
 use Rattle.grammar.specs.NetworkForm.{bytes-given, from-first-byte, 240-up, 224-up, 192-up, 128-up, else-8, inferred-size, becomes, below-8, no-less, rounded-up, eighths, bytes-written, as-given, zeros-added, NetworkForm, with-size, without, NetworkCall, too-long, no-network, too-large, no-room, read-network}
 use Rattle.grammar.proofs.LengthLaws.{network-most}
 use Rattle.grammar.proofs.NumberLaws.{size-reads, reads-size, size-999}
-use Rattle.grammar.proofs.OptionLaws.{impossible, nothing-there}
 use Rattle.grammar.proofs.GivenLaws.{given-reads, reads-given}
 use Rattle.grammar.proofs.ByteLaws.{given-lacks}
 

@@ -10,15 +10,16 @@ use borrow.Author.Tests.{le-leb, lt-leb, ne-eqb, eqb-false}
 use lib.Dec.{lit<, lit≤}
 use lib.ListN.{length, take, drop, replicate, length-replicate, length-drop, take-append-drop}
 use lib.Seq.{length-take-le, take-append-seam, drop-append-add, drop-at, drop-drop}
+use Rattle.notation.specs.BigEndian.{AllBelow}
+use Rattle.notation.specs.Pieces.{separated}
+use Rattle.notation.proofs.DigitLaws.{digits-length, digits-below, below-take, below-drop, below-append, zeros-below}
+use Rattle.notation.proofs.OptionLaws.{same-value}
 use Rattle.address.specs.declared.Address.{Address}
 use Rattle.address.specs.declared.Address.the-variants.{V4, V6}
 use Rattle.address.specs.Addresses.{IsAddress, number}
-use Rattle.octets.specs.BigEndian.{AllBelow}
-use Rattle.octets.proofs.DigitLaws.{digits-length, digits-below, below-take, below-drop, below-append, zeros-below}
 use Rattle.address_groups.specs.Groups.{groupsOf, groupsAddress}
 use Rattle.address_groups.proofs.Claims.{halves-of-groups, groups-of-halves}
 use Rattle.digits.specs.Numerals.{digitOf, allDigits, leadingZero, numeral, hex, lower, groupOf}
-use Rattle.digits.specs.Pieces.{separated}
 use Rattle.digits.proofs.NumeralLaws.{hex-group, group-digits, numeral-leading, numeral-lower}
 use Rattle.digits.proofs.OneSpellingLaws.{numeral-spelling}
 use Rattle.zero_runs.specs.Runs.{ZeroRun, LeftmostLongest, longestRun, firstRun}
@@ -29,7 +30,6 @@ use Rattle.normal.proofs.ReadBackLaws.{text-read}
 use Rattle.grammar.specs.Rfc3986.{h16, 1*4HEXDIG}
 use Rattle.grammar.specs.StrictForm.{IPv4Text, StrictForm, four}
 use Rattle.grammar.specs.NormalForm.{no-capital, no-byte, and-byte, normal-h16, no-leading-0, only-0, normal-h16s, no-group, one-group, and-more, NormalEight, whole, shortened-run, NormalForm, of-IPv4, of-IPv6}
-use Rattle.grammar.proofs.OptionLaws.{same-value}
 use Rattle.grammar.proofs.DigitStringLaws.{same-16, digits-all, digits-value}
 use Rattle.grammar.proofs.NumberLaws.{h16-reads, reads-h16}
 use Rattle.grammar.proofs.StrictFormLaws.{text-spelling, EightList, eight, eight-list, eight-address, reads-4}

@@ -3,18 +3,18 @@ use mathlib.Core.Path.{_≡_, refl, sym, ap, ap₂, subst, subst₂, _∙_}
 use mathlib.Core.Bool.{Bool, true, false, cond, _||_}
 use mathlib.Core.List.{List, [], _∷_, map}
 use mathlib.Core.Option.{some, none}
-use Prim.Native.Nat.{ℕ, _+_, _-_, _*_, _/_, _%_, _≤_, _<_}
+use Prim.Native.Nat.{ℕ, _+_, _*_, _≤_, _<_}
 use native.Mathlib.Decide.{decLe}
 use native.Mathlib.Omega.{arith}
 use borrow.Author.Tests.{le-leb, lt-leb, le-ltb, ltb-false, ne-eqb, eqb-false}
 use lib.Dec.{ltb, lit≤, lit<}
 use lib.ListN.{length}
+use Rattle.notation.proofs.OptionLaws.{impossible}
 use Rattle.digits.specs.Numerals.{allDigits, textNumber, atMost, leadingZero, partOf, groupOf, numeral, decimal, lower}
 use Rattle.digits.proofs.OneSpellingLaws.{numeral-spelling}
-use Rattle.digits.proofs.PieceLaws.{at-most-says}
+use Rattle.digits.proofs.FirstPieceLaws.{at-most-says}
 use Rattle.grammar.specs.Rfc3986.{DIGIT, digit-string, one, and-one, dec-octet, 0-9, 10-99, 100-199, 200-249, 250-255, h16, 1*4HEXDIG}
 use Rattle.grammar.specs.NetworkForm.{size-part, one-to-three, only-0}
-use Rattle.grammar.proofs.OptionLaws.{impossible}
 use Rattle.grammar.proofs.DigitStringLaws.{digit-value, byte, bounds, all-cons, is-digit, same-10, same-16, digits-all, digits-value, digits-read, reads-digits, Short, one-digit, two-digits, three-digits, short}
 
 -- ---- sizes

@@ -7,19 +7,21 @@ use Prim.Native.Nat.{ℕ, suc, _+_, _*_, _/_, _%_, _<_}
 use native.Mathlib.Omega.{arith}
 use lib.Dec.{eqb, lit≤}
 use lib.ListN.{length, length-append}
-use Rattle.octets.specs.BigEndian.{digitsOf, numberOf}
-use Rattle.octets.proofs.DigitLaws.{four-number}
+use Rattle.notation.specs.BigEndian.{digitsOf, numberOf}
+use Rattle.notation.specs.Pieces.{splitOn, separated, Lacks}
+use Rattle.notation.specs.Options.{joined, single, orElse}
+use Rattle.notation.proofs.DigitLaws.{four-number}
+use Rattle.notation.proofs.PieceLaws.{split-first}
+use Rattle.notation.proofs.SeparatedLaws.{lacks-cons, split-lacks}
+use Rattle.notation.proofs.OptionLaws.{impossible}
 use Rattle.digits.specs.Numerals.{digitOf, groupOf}
-use Rattle.digits.specs.Pieces.{splitOn, separated}
 use Rattle.digits.proofs.NumeralLaws.{no-digit, group-digits}
-use Rattle.digits.proofs.PieceLaws.{split-first, part-most}
-use Rattle.digits.proofs.SeparatedLaws.{Lacks, lacks-cons, split-lacks}
-use Rattle.ipv4_text.specs.Dotted.{joined, single, dottedOf}
-use Rattle.ipv6_text.specs.EightGroups.{orElse, tailOf, piecesOf, sideOf, gapOf}
+use Rattle.digits.proofs.FirstPieceLaws.{part-most}
+use Rattle.ipv4_text.specs.Dotted.{dottedOf}
+use Rattle.ipv6_text.specs.EightGroups.{tailOf, piecesOf, sideOf, gapOf}
 use Rattle.ipv6_text.proofs.ColonLaws.{dotted-no-colon}
 use Rattle.text.proofs.SpellingLaws.{gap-piece}
 use Rattle.grammar.specs.Rfc3986.{IPv4address, four-octets, h16}
-use Rattle.grammar.proofs.OptionLaws.{impossible}
 use Rattle.grammar.proofs.NumberLaws.{octet-reads, h16-reads, reads-h16}
 use Rattle.grammar.proofs.DottedLaws.{separated-split, address-reads, reads-address}
 

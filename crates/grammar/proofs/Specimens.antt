@@ -5,15 +5,15 @@ use mathlib.Core.Bool.{Bool, true, _&&_, and-eq-true-iff, false≢true}
 use mathlib.Core.Option.{Option, some}
 use Prim.Native.Nat.{ℕ}
 use Prim.Native.String.{String}
+use Rattle.notation.specs.Ascii.{ascii}
+use Rattle.notation.specs.Pieces.{splitOn}
+use Rattle.notation.specs.Options.{every}
 use Rattle.address.specs.declared.Address.{Address}
 use Rattle.address.specs.declared.Address.the-variants.{V4}
 use Rattle.address.specs.declared.Block.{Block}
 use Rattle.address.specs.declared.Refusal.the-variants.{Malformed, LengthTooLarge, NoRoom, BitsBeyondLength}
 use Rattle.address.specs.Answers.{Answer, gives, refuses, missing, noBlock}
-use Rattle.digits.specs.Ascii.{ascii}
 use Rattle.digits.specs.Numerals.{digitOf, allDigits, partOf, groupOf}
-use Rattle.digits.specs.Pieces.{splitOn}
-use Rattle.ipv4_text.specs.Dotted.{every}
 use Rattle.text.specs.Strict.{strictOf}
 use Rattle.loose.specs.Loose.{looseOf}
 use Rattle.network.specs.Network.{networkAnswer, networkLeaves}

@@ -10,16 +10,18 @@ use native.Mathlib.Omega.{arith}
 use borrow.Author.Tests.{eqb-true}
 use lib.Dec.{eqb}
 use lib.ListN.{length}
+use Rattle.notation.specs.BigEndian.{digitsOf, numberOf}
+use Rattle.notation.specs.Options.{orElse}
+use Rattle.notation.proofs.DigitLaws.{four-number}
+use Rattle.notation.proofs.OptionLaws.{impossible, nothing-there}
 use Rattle.address.specs.declared.Address.{Address}
 use Rattle.address.specs.declared.Address.the-variants.{V4, V6}
 use Rattle.address.specs.declared.Refusal.the-variants.{TextTooLong, Malformed, WrongFamily}
 use Rattle.address.specs.Answers.{Answer, gives, readingAnswer}
 use Rattle.address.proofs.Claims.{gives-one, gives-refuses}
-use Rattle.octets.specs.BigEndian.{digitsOf, numberOf}
-use Rattle.octets.proofs.DigitLaws.{four-number}
 use Rattle.address_groups.specs.Groups.{groupsAddress}
 use Rattle.ipv4_text.specs.Dotted.{dottedOf, dottedText}
-use Rattle.ipv6_text.specs.EightGroups.{orElse, eightOf}
+use Rattle.ipv6_text.specs.EightGroups.{eightOf}
 use Rattle.ipv6_text.proofs.ColonLaws.{colon-not-dotted}
 use Rattle.text.specs.Inner.{asReading}
 use Rattle.text.specs.Strict.{strictOf, knownFamily, strictAnswer}
@@ -28,7 +30,6 @@ use Rattle.text.proofs.StrictLaws.{strict-unknown, strict-long, strict-read}
 use Rattle.normal.specs.Normal.{normalText}
 use Rattle.grammar.specs.Rfc3986.{IPv4address, four-octets, IPv6address}
 use Rattle.grammar.specs.StrictForm.{IPv4Text, of-octets, IPv6Text, of-groups, StrictForm, four, six, either-4, either-6, Known, for-4, for-6, for-either, StrictCall, unknown, too-long, not-strict, read-strict}
-use Rattle.grammar.proofs.OptionLaws.{impossible, nothing-there}
 use Rattle.grammar.proofs.DottedLaws.{address-reads, reads-address, dotted-spelt}
 use Rattle.grammar.proofs.EightLaws.{reads-eight, eight-length}
 use Rattle.grammar.proofs.GrammarLaws.{grammar-reads, reads-grammar}

@@ -1,26 +1,26 @@
 -- Network text that is written: the form has one text, and the writer's answers. Assumes nothing.
 use mathlib.Core.Path.{_≡_, refl, sym, ap, ap₂, subst, subst₂, _∙_}
-use mathlib.Core.List.{List, [], _∷_, _++_, map}
-use Prim.Native.Nat.{ℕ, zero, suc, _+_, _-_, _*_, _/_, _%_, _^_, _≤_, _<_, max}
+use mathlib.Core.List.{List, _∷_, _++_, map}
+use Prim.Native.Nat.{ℕ, zero, suc, _+_, _-_, _*_, _/_, _^_, _≤_, _<_, max}
 use native.Mathlib.Decide.{decLe}
 use native.Mathlib.Omega.{arith}
 use lib.Dec.{lit<}
 use lib.ListN.{length, take, drop}
 use lib.Pow.{split}
 use lib.Seq.{length-take-le}
+use Rattle.notation.specs.BigEndian.{digitsOf}
+use Rattle.notation.specs.Pieces.{separated}
+use Rattle.notation.proofs.DigitLaws.{digits-length, digits-below, below-take}
 use Rattle.address.specs.declared.Address.{Address}
 use Rattle.address.specs.declared.Address.the-variants.{V4, V6}
 use Rattle.address.specs.Addresses.{IsAddress, number}
 use Rattle.address.specs.Answers.{Answer, writeAnswer, writeLeaves}
 use Rattle.address.proofs.AnswerLaws.{write-short, write-fits}
-use Rattle.octets.specs.BigEndian.{digitsOf}
 use Rattle.octets.specs.Octets.{octets}
-use Rattle.octets.proofs.DigitLaws.{digits-length, digits-below, below-take}
 use Rattle.octets.proofs.OctetLaws.{octets-4}
 use Rattle.digits.specs.Numerals.{decimal}
-use Rattle.digits.specs.Pieces.{separated}
 use Rattle.digits.proofs.NumeralLaws.{decimal-part}
-use Rattle.ipv4_text.proofs.EveryLaws.{every-decimal}
+use Rattle.ipv4_text.proofs.PartLaws.{every-decimal}
 use Rattle.ipv4_text.proofs.DottedLaws.{parts-spelling}
 use Rattle.network_text.specs.NetworkText.{sizeBytes, cleared, networkText, writeReasons}
 use Rattle.network_text.proofs.TextLaws.{cleared-high, write-6, write-large, write-sized}

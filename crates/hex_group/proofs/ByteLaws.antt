@@ -8,7 +8,7 @@ use borrow.Author.Tests.{lt-ltb}
 use lib.Bits.{bitAnd, bitOr, bitXor, and-block, or-block, xor-block, and-le-r, or-lt, xor-lt}
 use lib.Count.{trailingZeros}
 use lib.Dec.{ltb}
-use Rattle.octets.specs.BigEndian.{numberOf}
+use Rattle.notation.specs.BigEndian.{numberOf}
 use Rattle.digits.specs.Numerals.{digitOf, digitCount}
 use Rattle.digits.proofs.NumeralLaws.{agree, agreed}
 use Rattle.hex_group.specs.Bytes.{bytesOf, flagOf, nibbleOf}

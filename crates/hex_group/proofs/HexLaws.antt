@@ -10,7 +10,7 @@ use borrow.Author.Tests.{lt-ltb, le-ltb, ltb-true, ltb-false}
 use lib.Dec.{ltb}
 use lib.ListN.{length, take, drop, getD, List·getD-eq-default}
 use lib.Seq.{length-take-le}
-use Rattle.octets.specs.BigEndian.{numberOf}
+use Rattle.notation.specs.BigEndian.{numberOf}
 use Rattle.digits.specs.declared.read.Leading.the-variants.{Number, Nothing}
 use Rattle.digits.specs.Numerals.{digitOf, textNumber, groupOf, digitCount, leading}
 use Rattle.digits.proofs.LeadingLaws.{Scan, scan-start, scan-more, scan-stop, stop-byte, stop-end, lead-number, lead-empty, count-le}

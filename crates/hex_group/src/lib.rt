@@ -2,7 +2,7 @@
 ghost use mathlib.Core.Path.{_≡_};
 ghost use mathlib.Core.List.{[], _∷_, map};
 ghost use lib.ListN.{getD};
-ghost use Rattle.octets.specs.BigEndian.{numberOf};
+ghost use Rattle.notation.specs.BigEndian.{numberOf};
 ghost use Rattle.digits.specs.Numerals.{groupOf, leading};
 ghost use Rattle.hex_group.specs.Bytes.{bytesOf, firstFour, flagOf, nibbleOf};
 use digits::read::Leading;

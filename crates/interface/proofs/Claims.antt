@@ -6,6 +6,7 @@ use mathlib.Core.Option.{some, Option·getD}
 use Prim.Native.Nat.{ℕ, _+_, _*_, _/_, _≤_, _<_, max}
 use native.Mathlib.Omega.{arith}
 use lib.ListN.{length, take, drop}
+use Rattle.notation.specs.BigEndian.{AllBelow, digitsOf, numberOf}
 use Rattle.cover.specs.Blocks.{Fewest, Range, rangeBlocks}
 use Rattle.address.specs.declared.Address.{Address}
 use Rattle.address.specs.declared.Block.{Block}
@@ -16,7 +17,6 @@ use Rattle.address.specs.Answers.{Answer, gives, refuses, noAddress, noBlock, w
 use Rattle.address.specs.Blocks.{blockReasons}
 use Rattle.address.proofs.AnswerLaws.{number-pos, write-short, write-fits}
 use Rattle.address.proofs.Claims.{written-held}
-use Rattle.octets.specs.BigEndian.{AllBelow, digitsOf, numberOf}
 use Rattle.octets.specs.Octets.{octets, octetsAnswer}
 use Rattle.octets.proofs.OctetLaws.{octets-length}
 use Rattle.octets.proofs.Claims.{octets-read-back, octets-of-read, is-address, number-is}

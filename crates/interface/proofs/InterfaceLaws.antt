@@ -15,11 +15,11 @@ use Rattle.address.specs.declared.Reading.the-variants.{Read, Refused}
 use Rattle.address.specs.declared.Refusal.{Refusal}
 use Rattle.address.specs.Answers.{Answer, gives, refuses, refusalNumber, noAddress, readingAnswer, writeAnswer, writeLeaves}
 use Rattle.address.proofs.AnswerLaws.{nonzero}
-use Rattle.blocks.specs.BlockText.{blockText}
-use Rattle.blocks.proofs.BlockTextLaws.{width-most}
-use Rattle.network_text.specs.NetworkText.{networkText}
 use Rattle.text.specs.Strict.{knownFamily, strictAnswer}
 use Rattle.text.proofs.StrictLaws.{strict-unknown}
+use Rattle.network_text.specs.NetworkText.{networkText}
+use Rattle.blocks.specs.BlockText.{blockText}
+use Rattle.blocks.proofs.BlockTextLaws.{width-most}
 use Rattle.c_answers.specs.CAnswers.{besides}
 use Rattle.interface.specs.Interface.{Outcome, outcome, whenGiven, refusedBy, andThen, addressInto, rangeTo, writes, networkWrites, blockWrites}
 

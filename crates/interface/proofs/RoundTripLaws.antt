@@ -10,6 +10,9 @@ use native.Mathlib.Omega.{arith}
 use borrow.Author.Tests.{ne-eqb}
 use lib.Dec.{ltb}
 use lib.ListN.{length, drop}
+use Rattle.notation.specs.BigEndian.{AllBelow, numberOf}
+use Rattle.notation.proofs.DigitLaws.{four-number}
+use Rattle.cover.specs.Blocks.{Fewest, Range, rangeBlocks}
 use Rattle.address.specs.declared.Address.{Address}
 use Rattle.address.specs.declared.Address.the-variants.{V4, V6}
 use Rattle.address.specs.declared.Refusal.the-variants.{NoClass}
@@ -17,15 +20,12 @@ use Rattle.address.specs.Addresses.{IsAddress, width, number}
 use Rattle.address.specs.Answers.{Answer, refusal, gives, refuses, writeRefusal, writeAnswer}
 use Rattle.address.proofs.AnswerLaws.{answer-gives}
 use Rattle.address.proofs.Claims.{one-width}
-use Rattle.octets.specs.BigEndian.{AllBelow, numberOf}
 use Rattle.octets.specs.Octets.{octetsAnswer}
 use Rattle.octets.proofs.Claims.{number-is, no-address-exactly}
-use Rattle.octets.proofs.DigitLaws.{four-number}
 use Rattle.octets.proofs.OctetLaws.{read-4}
 use Rattle.network.specs.Network.{Network, networkOf, noNetwork, readReasons, networkAnswer}
 use Rattle.classes.specs.Classes.{classA, classB, classC, splitAnswer}
 use Rattle.classes.proofs.ClassLaws.{class-a, class-b, class-c, class-none, split-class, split-none, split-6}
-use Rattle.cover.specs.Blocks.{Fewest, Range, rangeBlocks}
 use Rattle.records.specs.Records.{recordSize, recordsOf, readRecords}
 use Rattle.records.proofs.Claims.{records-size}
 use Rattle.ranges.specs.Ranges.{rangeAnswer, rangeLeaves}

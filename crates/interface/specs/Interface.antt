@@ -7,7 +7,7 @@ use lib.Dec.{eqb}
 use Rattle.address.specs.declared.Address.{Address}
 use Rattle.address.specs.declared.Block.{Block}
 use Rattle.address.specs.Addresses.{number}
-use Rattle.address.specs.Answers.{Answer, answer, writeAnswer, writeLeaves}
+use Rattle.address.specs.Answers.{Answer, writeAnswer, writeLeaves}
 use Rattle.address.specs.Blocks.{blockReasons}
 use Rattle.octets.specs.Octets.{octets, octetsAnswer}
 use Rattle.normal.specs.Normal.{normalText}

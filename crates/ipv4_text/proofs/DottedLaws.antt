@@ -11,18 +11,21 @@ use borrow.Author.Tests.{le-leb, lt-leb, leb-true, eqb-true}
 use lib.Dec.{eqb, leb}
 use lib.ListN.{length, take, drop, getD}
 use lib.Seq.{take-all}
-use Rattle.octets.specs.BigEndian.{AllBelow, numberFrom, numberOf}
+use Rattle.notation.specs.BigEndian.{AllBelow, numberFrom, numberOf}
+use Rattle.notation.specs.Pieces.{indexOf, splitOn, separated}
+use Rattle.notation.specs.Options.{joined, every}
+use Rattle.notation.proofs.PieceLaws.{split-found, split-last, split-first}
+use Rattle.notation.proofs.SeparatedLaws.{split-separated}
+use Rattle.notation.proofs.SliceLaws.{to-end}
+use Rattle.notation.proofs.EveryLaws.{every-reads, reads-each, reads-length, reads-below}
 use Rattle.digits.specs.declared.read.Leading.the-variants.{Number, Nothing}
 use Rattle.digits.specs.Numerals.{digitOf, partOf, digitCount, leading}
-use Rattle.digits.specs.Pieces.{indexOf, splitOn, separated}
-use Rattle.digits.proofs.PieceLaws.{split-found, split-last, split-first, part-reads, piece-nothing, piece-last, piece-more, piece-other, leading-says, part-most}
-use Rattle.digits.proofs.SeparatedLaws.{split-separated}
-use Rattle.digits.proofs.SliceLaws.{to-end}
+use Rattle.digits.proofs.FirstPieceLaws.{part-reads, piece-nothing, piece-last, piece-more, piece-other, leading-says, part-most}
 use Rattle.ipv4_text.specs.declared.Dotted.the-variants.{Value, NotDotted}
 use Rattle.ipv4_text.specs.declared.Parts.{Parts}
 use Rattle.ipv4_text.specs.declared.Parts.the-variants.{Numbers, NotParts}
-use Rattle.ipv4_text.specs.Dotted.{joined, every, partsOf, dottedOf, asParts, asDotted}
-use Rattle.ipv4_text.proofs.EveryLaws.{every-reads, reads-each, reads-length, reads-below, part-lacks, part-octet}
+use Rattle.ipv4_text.specs.Dotted.{partsOf, dottedOf, asParts, asDotted}
+use Rattle.ipv4_text.proofs.PartLaws.{part-lacks, part-octet}
 
 -- what an answer says of the definition
 pub value-says : (o : Option ℕ) (v : ℕ) → Value v ≡ asDotted o → o ≡ some v

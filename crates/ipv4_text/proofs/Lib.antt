@@ -1,3 +1,3 @@
--- EveryLaws: pieces that are read, each by itself. DottedLaws: dotted text read part after part.
-pub mod EveryLaws
+-- PartLaws: the decimal parts. DottedLaws: parts with dots, read and written.
+pub mod PartLaws
 pub mod DottedLaws

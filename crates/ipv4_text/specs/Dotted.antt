@@ -1,32 +1,18 @@
 -- IPv4 text: parts with dots (01, "Strict text" and "Normal text"; RFC 3986 section 3.2.2). A text is the list of its bytes. Assumes nothing.
 use mathlib.Core.Bool.{cond}
-use mathlib.Core.List.{List, [], _∷_, _++_, map}
+use mathlib.Core.List.{List, map}
 use mathlib.Core.Option.{Option, some, none, Option·map}
 use Prim.Native.Nat.{ℕ}
 use lib.Dec.{eqb, leb}
 use lib.ListN.{length}
-use Rattle.octets.specs.BigEndian.{digitsOf, numberOf}
+use Rattle.notation.specs.BigEndian.{digitsOf, numberOf}
+use Rattle.notation.specs.Options.{every}
+use Rattle.notation.specs.Pieces.{splitOn, separated}
 use Rattle.digits.specs.Numerals.{partOf, decimal}
-use Rattle.digits.specs.Pieces.{splitOn, separated}
 use Rattle.ipv4_text.specs.declared.Dotted.{Dotted}
 use Rattle.ipv4_text.specs.declared.Parts.{Parts}
 use Rattle.ipv4_text.specs.declared.Parts.the-variants.{Numbers, NotParts}
 use Rattle.ipv4_text.specs.declared.Dotted.the-variants.{Value, NotDotted}
-
--- numbers, and more numbers after them
-abbrev pub joined : Option (List ℕ) → Option (List ℕ) → Option (List ℕ)
-joined none b = none
-joined (some xs) none = none
-joined (some xs) (some ys) = some (xs ++ ys)
-
-abbrev pub single : Option ℕ → Option (List ℕ)
-single none = none
-single (some x) = some (x ∷ [])
-
--- what f reads of each piece, if it reads every one
-unfoldable pub every : (List ℕ → Option ℕ) → List (List ℕ) → Option (List ℕ)
-every f [] = some []
-every f (p ∷ ps) = joined (single (f p)) (every f ps)
 
 -- "one to four strict decimal parts", with single dots (01, "Network form")
 unfoldable pub partsOf : List ℕ → Option (List ℕ)

@@ -7,13 +7,14 @@ use Prim.Native.Nat.{ℕ}
 use native.Mathlib.Omega.{arith}
 use lib.Dec.{eqb, lit≤}
 use lib.ListN.{length}
-use Rattle.octets.specs.BigEndian.{numberOf}
+use Rattle.notation.specs.BigEndian.{numberOf}
+use Rattle.notation.specs.Pieces.{contains, splitOn, Lacks, Each}
+use Rattle.notation.specs.Options.{every}
+use Rattle.notation.proofs.SeparatedLaws.{lacks-split}
+use Rattle.notation.proofs.EveryLaws.{every-reads, reads-each}
 use Rattle.digits.specs.Numerals.{digitOf, partOf}
-use Rattle.digits.specs.Pieces.{contains, splitOn}
 use Rattle.digits.proofs.NumeralLaws.{no-digit, part-digits}
-use Rattle.digits.proofs.SeparatedLaws.{Lacks, Each, lacks-split}
-use Rattle.ipv4_text.specs.Dotted.{every, dottedOf}
-use Rattle.ipv4_text.proofs.EveryLaws.{every-reads, reads-each}
+use Rattle.ipv4_text.specs.Dotted.{dottedOf}
 
 -- an IPv4 text holds digits and dots
 pub dotted-lacks : (b : ℕ) → digitOf b ≡ 16 → eqb 46 b ≡ false → (t : List ℕ) (v : ℕ) → dottedOf t ≡ some v → Lacks b t

@@ -11,11 +11,13 @@ use borrow.Author.Tests.{eq-eqb, ne-eqb, le-leb, lt-leb}
 use lib.Dec.{eqb, leb}
 use lib.ListN.{length, take, drop, getD, length-drop}
 use lib.Seq.{take-all, take-take, take-add, drop-at, length-take-le}
+use Rattle.notation.specs.Pieces.{indexOf, splitOn}
+use Rattle.notation.specs.Options.{joined, single}
+use Rattle.notation.proofs.PieceLaws.{index-contains, split-last}
 use Rattle.digits.specs.declared.read.Leading.the-variants.{Number, Nothing}
 use Rattle.digits.specs.Numerals.{groupOf, leading}
-use Rattle.digits.specs.Pieces.{indexOf, splitOn}
-use Rattle.digits.proofs.PieceLaws.{index-contains, split-last, group-reads, piece-nothing, piece-last, piece-more, piece-other}
-use Rattle.ipv4_text.specs.Dotted.{joined, single, dottedOf}
+use Rattle.digits.proofs.FirstPieceLaws.{group-reads, piece-nothing, piece-last, piece-more, piece-other}
+use Rattle.ipv4_text.specs.Dotted.{dottedOf}
 use Rattle.ipv6_text.specs.Inner.{colonFirst, gapFirst, firstSide}
 use Rattle.ipv6_text.specs.EightGroups.{tailOf, piecesOf, gapOf}
 use Rattle.ipv6_text.proofs.ColonLaws.{colon-not-dotted}

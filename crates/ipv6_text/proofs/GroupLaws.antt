@@ -9,15 +9,17 @@ use native.Mathlib.Decide.{decLt}
 use native.Mathlib.Omega.{arith}
 use lib.ListN.{length, take, drop, set}
 use lib.Seq.{take-all, take-suc-set}
-use Rattle.octets.specs.BigEndian.{digitsOf}
+use Rattle.notation.specs.BigEndian.{digitsOf}
+use Rattle.notation.specs.Pieces.{indexOf, splitOn}
+use Rattle.notation.specs.Options.{joined, single, orElse}
+use Rattle.notation.proofs.PieceLaws.{split-found, split-last, split-first, index-contains}
 use Rattle.digits.specs.declared.read.Leading.the-variants.{Number}
 use Rattle.digits.specs.Numerals.{digitOf, groupOf, digitCount, leading}
-use Rattle.digits.specs.Pieces.{indexOf, splitOn}
 use Rattle.digits.proofs.NumeralLaws.{group-digits}
-use Rattle.digits.proofs.PieceLaws.{split-found, split-last, split-first, index-contains, leading-says}
-use Rattle.ipv4_text.specs.Dotted.{joined, single, dottedOf}
+use Rattle.digits.proofs.FirstPieceLaws.{leading-says}
+use Rattle.ipv4_text.specs.Dotted.{dottedOf}
 use Rattle.ipv6_text.specs.Inner.{colonFirst}
-use Rattle.ipv6_text.specs.EightGroups.{orElse, tailOf, piecesOf, sideOf}
+use Rattle.ipv6_text.specs.EightGroups.{tailOf, piecesOf, sideOf}
 use Rattle.ipv6_text.proofs.ColonLaws.{colon-not-dotted}
 
 -- one group more

@@ -10,8 +10,9 @@ use borrow.Author.Tests.{ne-eqb, eq-eqb, le-leb, lt-leb, leb-true, leb-false}
 use lib.Dec.{leb}
 use lib.ListN.{length, take, drop, getD, set, replicate, length-append, length-take, length-drop, length-set, length-replicate, getD-replicate, drop-of-length-le, List·getD-append, take-append-drop}
 use lib.Seq.{drop-cons, take-all, take-take, take-at, drop-at, length-take-le, getD-take, getD-drop, getD-append-add}
-use Rattle.octets.specs.BigEndian.{digitsOf}
-use Rattle.ipv4_text.specs.Dotted.{joined, dottedOf}
+use Rattle.notation.specs.BigEndian.{digitsOf}
+use Rattle.notation.specs.Options.{joined}
+use Rattle.ipv4_text.specs.Dotted.{dottedOf}
 use Rattle.ipv6_text.specs.declared.Layout.{Layout}
 use Rattle.ipv6_text.specs.Inner.{upTo8, held, HoldsGroups, expanded, LaidOut}
 use Rattle.ipv6_text.specs.EightGroups.{tailOf, filled, eight}

@@ -10,10 +10,11 @@ use borrow.Author.Tests.{ne-eqb, le-leb, lt-leb, lt-ltb, le-ltb}
 use lib.Dec.{leb}
 use lib.ListN.{length, take, drop, set, length-set, length-drop}
 use lib.Seq.{length-take-le}
+use Rattle.notation.specs.Pieces.{splitOn}
+use Rattle.notation.specs.Options.{joined}
+use Rattle.notation.proofs.SliceLaws.{tail, to-end}
 use Rattle.digits.specs.Numerals.{groupOf}
-use Rattle.digits.specs.Pieces.{splitOn}
-use Rattle.digits.proofs.SliceLaws.{tail, to-end}
-use Rattle.ipv4_text.specs.Dotted.{joined, dottedOf}
+use Rattle.ipv4_text.specs.Dotted.{dottedOf}
 use Rattle.ipv6_text.specs.declared.Side.{Side}
 use Rattle.ipv6_text.specs.Inner.{gapFirst, HoldsGroups, firstSide, behindGap, ReadsSide}
 use Rattle.ipv6_text.specs.EightGroups.{tailOf, piecesOf, sideOf, gapOf, filled, eight, eightOf}

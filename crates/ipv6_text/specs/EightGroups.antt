@@ -5,20 +5,12 @@ use mathlib.Core.Option.{Option, some, none, Option·map}
 use Prim.Native.Nat.{ℕ, zero, suc, _+_, _-_}
 use lib.Dec.{leb, ltb, eqb}
 use lib.ListN.{length, take, drop, replicate}
-use Rattle.octets.specs.BigEndian.{digitsOf}
+use Rattle.notation.specs.BigEndian.{digitsOf}
+use Rattle.notation.specs.Pieces.{splitOn}
+use Rattle.notation.specs.Options.{orElse, joined, single}
 use Rattle.digits.specs.Numerals.{groupOf}
-use Rattle.digits.specs.Pieces.{splitOn}
-use Rattle.ipv4_text.specs.Dotted.{joined, single, dottedOf}
+use Rattle.ipv4_text.specs.Dotted.{dottedOf}
 use Rattle.ipv6_text.specs.declared.Eight.{Eight}
-
--- ---- what is there, and what is not
-
--- the first that is there
-abbrev pub orElse : {A : Type 0} → Option A → Option A → Option A
-orElse none b = b
-orElse (some a) b = some a
-
--- ---- IPv6
 
 -- "The last two groups may be one strict IPv4 text."
 unfoldable pub tailOf : List ℕ → Option (List ℕ)

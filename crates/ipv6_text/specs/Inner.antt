@@ -6,8 +6,8 @@ use mathlib.Core.Option.{Option, some, none}
 use Prim.Native.Nat.{ℕ, _+_, _-_, _≤_}
 use lib.Dec.{leb, ltb, eqb}
 use lib.ListN.{length, take, drop, replicate}
-use Rattle.digits.specs.Pieces.{splitOn}
-use Rattle.ipv4_text.specs.Dotted.{joined}
+use Rattle.notation.specs.Pieces.{splitOn}
+use Rattle.notation.specs.Options.{joined}
 use Rattle.ipv6_text.specs.EightGroups.{piecesOf, gapOf}
 use Rattle.ipv6_text.specs.declared.Layout.{Layout}
 use Rattle.ipv6_text.specs.declared.Side.{Side}

@@ -5,7 +5,7 @@ ghost use mathlib.Core.List.{List};
 ghost use mathlib.Core.Option.{Option, some};
 ghost use Prim.Native.Nat.{ℕ, _≤_, _<_};
 ghost use lib.ListN.{length, take, getD};
-ghost use Rattle.ipv4_text.specs.Dotted.{joined};
+ghost use Rattle.notation.specs.Options.{joined};
 ghost use Rattle.ipv6_text.specs.Inner.{HoldsGroups, ReadsSide, LaidOut, colonFirst, gapFirst, expanded};
 ghost use Rattle.ipv6_text.specs.EightGroups.{tailOf, sideOf, filled, eight, eightOf, asEight};
 use digits::read::Leading;

@@ -13,19 +13,20 @@ use lib.Dec.{ltb, leb, lit<}
 use lib.ListN.{length, take, drop, getD}
 use lib.Pow.{pow-add}
 use lib.Seq.{take-all}
+use Rattle.notation.specs.BigEndian.{digitsOf, numberFrom, numberOf}
+use Rattle.notation.specs.Pieces.{indexOf, splitOn}
+use Rattle.notation.specs.Options.{joined, single, every}
+use Rattle.notation.proofs.DigitLaws.{bits-power, digits-length, digits-number, from-shift}
+use Rattle.notation.proofs.PieceLaws.{split-found, split-last, split-first}
+use Rattle.notation.proofs.SliceLaws.{to-end}
 use Rattle.wide.proofs.Halves.{one-shifted}
 use Rattle.address.specs.declared.Address.{Address}
 use Rattle.address.specs.declared.Address.the-variants.{V4}
 use Rattle.address.specs.declared.Refusal.the-variants.{TextTooLong, Malformed}
 use Rattle.address.specs.Answers.{gives, refuses, noAddress, readAnswer}
-use Rattle.octets.specs.BigEndian.{digitsOf, numberFrom, numberOf}
-use Rattle.octets.proofs.DigitLaws.{bits-power, digits-length, digits-number, from-shift}
 use Rattle.digits.specs.declared.read.Leading.the-variants.{Number, Nothing}
 use Rattle.digits.specs.Numerals.{atMost}
-use Rattle.digits.specs.Pieces.{indexOf, splitOn}
-use Rattle.digits.proofs.PieceLaws.{at-most-says, split-found, split-last, split-first}
-use Rattle.digits.proofs.SliceLaws.{to-end}
-use Rattle.ipv4_text.specs.Dotted.{joined, single, every}
+use Rattle.digits.proofs.FirstPieceLaws.{at-most-says}
 use Rattle.loose.specs.Inner.{leadingLoose}
 use Rattle.loose.specs.Loose.{loosePart, octetsFrom, combined, looseOf, looseAnswer}
 use Rattle.loose.proofs.PartLaws.{first, firstPart, found-nothing, found-last, found-more, found-other}

@@ -9,17 +9,18 @@ use native.Mathlib.Omega.{arith}
 use borrow.Author.Tests.{lt-ltb, ltb-true, eqb-true}
 use lib.Dec.{eqb, ltb, lit<}
 use lib.ListN.{length}
+use Rattle.notation.specs.BigEndian.{AllBelow, digitsOf, numberOf}
+use Rattle.notation.specs.Pieces.{splitOn}
+use Rattle.notation.specs.Options.{every}
+use Rattle.notation.proofs.DigitLaws.{digits-below, digits-length, number-below}
+use Rattle.notation.proofs.EveryLaws.{every-reads, reads-so}
 use Rattle.address.specs.declared.Address.{Address}
 use Rattle.address.specs.declared.Address.the-variants.{V4}
 use Rattle.address.specs.Addresses.{IsAddress}
-use Rattle.octets.specs.BigEndian.{AllBelow, digitsOf, numberOf}
-use Rattle.octets.proofs.DigitLaws.{digits-below, digits-length, number-below}
 use Rattle.digits.specs.Numerals.{digitOf, allDigits, textNumber, boundedNumber, leadingZero, partOf}
-use Rattle.digits.specs.Pieces.{splitOn}
-use Rattle.digits.proofs.PieceLaws.{at-most-says}
-use Rattle.ipv4_text.specs.Dotted.{every, dottedOf}
+use Rattle.digits.proofs.FirstPieceLaws.{at-most-says}
+use Rattle.ipv4_text.specs.Dotted.{dottedOf}
 use Rattle.ipv4_text.proofs.DottedLaws.{dotted-octets}
-use Rattle.ipv4_text.proofs.EveryLaws.{every-reads, reads-so}
 use Rattle.loose.specs.Loose.{loosePart, octetsFrom, combined, looseOf}
 
 -- ---- octets

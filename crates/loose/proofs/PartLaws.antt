@@ -10,14 +10,14 @@ use borrow.Author.Tests.{eq-eqb, ne-eqb, eqb-true}
 use lib.Dec.{eqb, lit≤}
 use lib.ListN.{length, take, drop, getD, length-drop}
 use lib.Seq.{length-take-le, take-add, drop-at, getD-drop}
+use Rattle.notation.specs.Pieces.{indexOf}
+use Rattle.notation.proofs.SliceLaws.{to-end}
 use Rattle.digits.specs.declared.read.Leading.{Leading}
 use Rattle.digits.specs.declared.read.Leading.the-variants.{Number, Nothing}
 use Rattle.digits.specs.Numerals.{digitOf, textNumber, atMost, boundedNumber, hexMarked, leading}
-use Rattle.digits.specs.Pieces.{indexOf}
 use Rattle.digits.proofs.LeadingLaws.{count-le}
 use Rattle.digits.proofs.MarkLaws.{marked-long}
-use Rattle.digits.proofs.SliceLaws.{to-end}
-use Rattle.digits.proofs.PieceLaws.{ReadsDigits, bounded-reads, piece-nothing, piece-last, piece-more, piece-other, leading-says}
+use Rattle.digits.proofs.FirstPieceLaws.{ReadsDigits, bounded-reads, piece-nothing, piece-last, piece-more, piece-other, leading-says}
 use Rattle.loose.specs.Inner.{marked, leadingLoose}
 use Rattle.loose.specs.Loose.{startsZero, baseOf, markOf, loosePart}
 

@@ -5,13 +5,13 @@ use mathlib.Core.Option.{Option, some, none, Option·map}
 use Prim.Native.Nat.{ℕ, zero, suc, _^_}
 use lib.Dec.{ltb, eqb}
 use lib.ListN.{length, drop}
+use Rattle.notation.specs.BigEndian.{digitsOf, numberOf}
+use Rattle.notation.specs.Pieces.{splitOn}
+use Rattle.notation.specs.Options.{every}
 use Rattle.address.specs.declared.Address.{Address}
 use Rattle.address.specs.declared.Address.the-variants.{V4}
 use Rattle.address.specs.Answers.{Answer, readAnswer, noAddress}
-use Rattle.octets.specs.BigEndian.{digitsOf, numberOf}
 use Rattle.digits.specs.Numerals.{hexMarked, textNumber}
-use Rattle.digits.specs.Pieces.{splitOn}
-use Rattle.ipv4_text.specs.Dotted.{every}
 
 -- the digit 0 comes first
 unfoldable pub startsZero : List ℕ → Bool

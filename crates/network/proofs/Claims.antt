@@ -8,22 +8,22 @@ use native.Mathlib.Omega.{arith}
 use lib.ListN.{length, take, drop}
 use lib.Pow.{pow-pos}
 use lib.Seq.{take-at, drop-at}
+use Rattle.notation.specs.BigEndian.{digitsOf}
 use Rattle.address.specs.declared.Address.{Address}
 use Rattle.address.specs.declared.Address.the-variants.{V4}
 use Rattle.address.specs.Addresses.{number}
 use Rattle.address.specs.Answers.{refusal, gives, writeAnswer, writeLeaves}
 use Rattle.address.proofs.AnswerLaws.{read-held, good-no-reason}
-use Rattle.octets.specs.BigEndian.{digitsOf}
+use Rattle.address.proofs.Claims.{Cases, given, not-given, one-answer}
 use Rattle.octets.specs.Octets.{octets}
 use Rattle.digits.specs.Numerals.{numeral}
 use Rattle.given.specs.GivenBytes.{zeroFilled}
 use Rattle.network_text.specs.NetworkText.{sizeBytes, cleared, networkText, writeReasons}
 use Rattle.network_text.proofs.TextLaws.{cleared-high, text-most, no-reason}
 use Rattle.network.specs.Network.{Network, networkOf, networkAnswer, networkLeaves, networkReadingAnswer}
-use Rattle.network.proofs.ReadBackLaws.{written, written-length, written-read, written-filled, written-answer}
-use Rattle.address.proofs.Claims.{Cases, given, not-given, one-answer}
 use Rattle.network.specs.declared.NetworkReading.{NetworkReading}
 use Rattle.network.specs.declared.NetworkReading.the-variants.{Read, Refused}
+use Rattle.network.proofs.ReadBackLaws.{written, written-length, written-read, written-filled, written-answer}
 
 -- ---- what is written
 

@@ -11,27 +11,28 @@ use borrow.Author.Tests.{lt-ltb, le-ltb, eq-eqb, ne-eqb}
 use lib.Dec.{leb, ltb, eqb, lit<}
 use lib.ListN.{length, take, drop, getD, replicate, length-append, length-replicate, drop-of-length-le}
 use lib.Seq.{length-take-le, take-all, take-append-add}
+use Rattle.notation.specs.BigEndian.{AllBelow, digitsOf, numberOf}
+use Rattle.notation.specs.Pieces.{indexOf}
+use Rattle.notation.proofs.DigitLaws.{digits-length, number-cons, number-lt, number-digits, below-append, zeros-below}
+use Rattle.notation.proofs.PieceLaws.{index-contains, index-lacks}
+use Rattle.notation.proofs.SliceLaws.{tail, to-end}
 use Rattle.address.specs.declared.Address.the-variants.{V4}
 use Rattle.address.specs.declared.Refusal.{Refusal}
 use Rattle.address.specs.declared.Refusal.the-variants.{TextTooLong, Malformed, LengthTooLarge}
 use Rattle.address.specs.Answers.{Answer, refusalNumber, answer, gives, refuses, writeRefusal, writeAnswer, writeLeaves}
 use Rattle.address.proofs.AnswerLaws.{write-fits}
 use Rattle.address.proofs.Claims.{number-above-0}
-use Rattle.octets.specs.BigEndian.{AllBelow, digitsOf, numberOf}
 use Rattle.octets.specs.Octets.{octets}
-use Rattle.octets.proofs.DigitLaws.{digits-length, number-cons, number-lt, number-digits, below-append, zeros-below}
 use Rattle.octets.proofs.OctetLaws.{octets-4, octets-length}
 use Rattle.digits.specs.declared.read.Leading.the-variants.{Number, Nothing}
 use Rattle.digits.specs.Numerals.{partOf, asLeading}
-use Rattle.digits.specs.Pieces.{indexOf}
-use Rattle.digits.proofs.PieceLaws.{index-contains, index-lacks, as-number, as-nothing}
-use Rattle.digits.proofs.SliceLaws.{tail, to-end}
+use Rattle.digits.proofs.FirstPieceLaws.{as-number, as-nothing}
 use Rattle.ipv4_text.proofs.DottedLaws.{Octets}
 use Rattle.given.specs.declared.Given.the-variants.{Bytes, NotGiven}
 use Rattle.given.specs.GivenBytes.{givenOf, zeroFilled, beforeSlash, asGiven}
+use Rattle.given.proofs.GivenLaws.{given-octets, bytes-says, not-given-says}
 use Rattle.network_text.specs.NetworkText.{sizeBytes}
 use Rattle.network.specs.Network.{Network, classSize, widened, inferredSize, completed, sized, networkOf, networkAnswer, networkLeaves}
-use Rattle.given.proofs.GivenLaws.{given-octets, bytes-says, not-given-says}
 
 -- ---- zeros behind bytes
 

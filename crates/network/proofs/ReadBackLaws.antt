@@ -11,16 +11,17 @@ use lib.Dec.{eqb, lit≤, lit<}
 use lib.ListN.{length, take, drop, replicate}
 use lib.Pow.{pow-add}
 use lib.Seq.{length-take-le, take-at}
+use Rattle.notation.specs.BigEndian.{AllBelow, digitsOf}
+use Rattle.notation.specs.Pieces.{separated, Lacks}
+use Rattle.notation.proofs.DigitLaws.{digits-length, digits-below, below-take, digits-split, digits-zero, bits-power}
+use Rattle.notation.proofs.SeparatedLaws.{seam}
 use Rattle.address.specs.Answers.{gives, refusal, writeLeaves}
-use Rattle.octets.specs.BigEndian.{AllBelow, digitsOf}
-use Rattle.octets.proofs.DigitLaws.{digits-length, digits-below, below-take, digits-split, digits-zero, bits-power}
 use Rattle.digits.specs.Numerals.{digitOf, decimal, partOf}
-use Rattle.digits.specs.Pieces.{separated}
 use Rattle.digits.proofs.NumeralLaws.{decimal-part}
 use Rattle.digits.proofs.MarkLaws.{not-marked}
-use Rattle.digits.proofs.SeparatedLaws.{Lacks, seam, numerals-lack}
+use Rattle.digits.proofs.SeparatedNumeralLaws.{numerals-lack}
 use Rattle.ipv4_text.proofs.DottedLaws.{parts-spelling}
-use Rattle.ipv4_text.proofs.EveryLaws.{every-decimal}
+use Rattle.ipv4_text.proofs.PartLaws.{every-decimal}
 use Rattle.given.specs.GivenBytes.{givenOf, zeroFilled}
 use Rattle.network_text.specs.NetworkText.{sizeBytes, cleared, networkText}
 use Rattle.network_text.proofs.TextLaws.{cleared-high, text-most}

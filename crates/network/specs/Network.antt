@@ -5,9 +5,9 @@ use mathlib.Core.Option.{Option, some, none, Option·map, Option·getD}
 use Prim.Native.Nat.{ℕ, suc, _*_, max}
 use lib.Dec.{leb, ltb}
 use lib.ListN.{length, drop, getD}
+use Rattle.notation.specs.Pieces.{contains, indexOf}
 use Rattle.address.specs.Answers.{Answer, answer, gives, refuses, missing, refusal, writeRefusal, writeLeaves}
 use Rattle.digits.specs.Numerals.{partOf}
-use Rattle.digits.specs.Pieces.{contains, indexOf}
 use Rattle.given.specs.GivenBytes.{givenOf, zeroFilled, beforeSlash}
 use Rattle.network_text.specs.NetworkText.{sizeBytes}
 use Rattle.network.specs.declared.NetworkReading.{NetworkReading}

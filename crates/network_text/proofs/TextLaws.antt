@@ -11,17 +11,17 @@ use lib.Dec.{leb, ltb, lit≤, lit<}
 use lib.ListN.{length, take, length-append}
 use lib.Pow.{split}
 use lib.Seq.{length-take-le}
+use Rattle.notation.specs.BigEndian.{digitsOf}
+use Rattle.notation.specs.Pieces.{separated}
+use Rattle.notation.proofs.DigitLaws.{four-digits, digits-length}
 use Rattle.wide.proofs.Halves.{one-shifted}
 use Rattle.address.specs.declared.Address.{Address}
 use Rattle.address.specs.declared.Address.the-variants.{V4, V6}
 use Rattle.address.specs.declared.Refusal.the-variants.{LengthTooLarge, WrongFamily}
 use Rattle.address.specs.Addresses.{family}
 use Rattle.address.specs.Answers.{Answer, refusal, refuses, writeAnswer, writeLeaves}
-use Rattle.octets.specs.BigEndian.{digitsOf}
-use Rattle.octets.proofs.DigitLaws.{four-digits, digits-length}
 use Rattle.digits.specs.Numerals.{decimal}
-use Rattle.digits.specs.Pieces.{separated}
-use Rattle.digits.proofs.SeparatedLaws.{numerals-most}
+use Rattle.digits.proofs.SeparatedNumeralLaws.{numerals-most}
 use Rattle.output.proofs.WriteLaws.{decimal-written}
 use Rattle.network_text.specs.NetworkText.{sizeBytes, cleared, networkText, writeReasons}
 

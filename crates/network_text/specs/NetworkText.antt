@@ -4,11 +4,11 @@ use mathlib.Core.List.{List, [], _∷_, _++_, map}
 use Prim.Native.Nat.{ℕ, _+_, _-_, _/_, _%_, _^_, max}
 use lib.Dec.{ltb, eqb}
 use lib.ListN.{take}
+use Rattle.notation.specs.BigEndian.{digitsOf}
+use Rattle.notation.specs.Pieces.{separated}
 use Rattle.address.specs.declared.Address.{Address}
 use Rattle.address.specs.Addresses.{family}
-use Rattle.octets.specs.BigEndian.{digitsOf}
 use Rattle.digits.specs.Numerals.{decimal}
-use Rattle.digits.specs.Pieces.{separated}
 
 -- "the size divided by eight, rounded up"
 abbrev pub sizeBytes : ℕ → ℕ

@@ -8,17 +8,17 @@ use borrow.Author.Tests.{ltb-false}
 use lib.Dec.{ltb, lit≤, lit<}
 use lib.ListN.{length, take, drop, length-append, length-drop}
 use lib.Seq.{length-take-le}
+use Rattle.notation.specs.BigEndian.{digitsOf}
+use Rattle.notation.proofs.DigitLaws.{digits-length}
 use Rattle.address.specs.declared.Address.{Address}
 use Rattle.address.specs.declared.Address.the-variants.{V4, V6}
 use Rattle.address.specs.Addresses.{number}
-use Rattle.octets.specs.BigEndian.{digitsOf}
 use Rattle.address_groups.specs.Groups.{groupsOf}
-use Rattle.octets.proofs.DigitLaws.{digits-length}
-use Rattle.digits.proofs.SeparatedLaws.{numerals-most}
+use Rattle.digits.proofs.SeparatedNumeralLaws.{numerals-most}
 use Rattle.ipv4_text.specs.Dotted.{dottedText}
 use Rattle.zero_runs.specs.Runs.{longestRun, firstRun}
-use Rattle.normal.specs.Normal.{groupsText, shortened, normalGroups, normalText}
 use Rattle.zero_runs.proofs.RunLaws.{run-is}
+use Rattle.normal.specs.Normal.{groupsText, shortened, normalGroups, normalText}
 
 pub text-4-most : (v : ℕ) → length (normalText (V4 v)) ≤ 15
 unfolding normalText dottedText

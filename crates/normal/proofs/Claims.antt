@@ -9,15 +9,16 @@ use native.Mathlib.Omega.{arith}
 use borrow.Author.Tests.{lt-ltb, le-ltb}
 use lib.Dec.{eqb}
 use lib.ListN.{length, take, replicate}
+use Rattle.notation.specs.BigEndian.{AllBelow}
+use Rattle.notation.specs.Pieces.{contains, separated}
+use Rattle.notation.specs.Options.{every}
 use Rattle.address.specs.declared.Address.{Address}
 use Rattle.address.specs.declared.Address.the-variants.{V4, V6}
 use Rattle.address.specs.Addresses.{IsAddress, family}
 use Rattle.address.specs.Answers.{refusal, gives, writeAnswer, writeLeaves}
 use Rattle.address.proofs.Claims as address
 use Rattle.address.proofs.AnswerLaws.{read-held}
-use Rattle.octets.specs.BigEndian.{AllBelow}
 use Rattle.digits.specs.Numerals.{digitOf, groupOf, lower}
-use Rattle.digits.specs.Pieces.{contains, separated}
 use Rattle.ipv6_text.specs.EightGroups.{eightOf}
 use Rattle.text.specs.Strict.{strictOf, strictAnswer}
 use Rattle.text.proofs.CaseLaws.{lower-strict}
@@ -25,13 +26,12 @@ use Rattle.text.proofs.FamilyLaws.{no-colon-4, colon-6}
 use Rattle.text.proofs.ByteLaws.{strict-lacks}
 use Rattle.text.proofs.MeaningLaws.{strict-address}
 use Rattle.text.proofs.SpellingLaws.{eight-spelling, gap-spelling}
-use Rattle.ipv4_text.specs.Dotted.{every}
 use Rattle.zero_runs.specs.Runs.{ZeroRun, LeftmostLongest, longestRun, firstRun}
+use Rattle.zero_runs.proofs.RunLaws as runs
 use Rattle.normal.specs.Normal.{groupsText, shortened, normalGroups, normalText}
 use Rattle.normal.proofs.BoundLaws.{text-4-most, text-6-most}
 use Rattle.normal.proofs.ReadBackLaws.{groups-read, shortened-read, text-read, text-answer, text-6-lacks}
 use Rattle.normal.proofs.LowerLaws.{text-lower}
-use Rattle.zero_runs.proofs.RunLaws as runs
 
 -- ---- lengths
 

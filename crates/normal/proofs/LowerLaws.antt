@@ -5,12 +5,12 @@ use mathlib.Core.List.{List, [], _∷_, _++_, map}
 use Prim.Native.Nat.{ℕ, _+_, _≤_, _<_}
 use lib.Dec.{ltb, lit≤, lit<}
 use lib.ListN.{take, drop}
+use Rattle.notation.specs.BigEndian.{digitsOf}
+use Rattle.notation.specs.Pieces.{separated}
 use Rattle.address.specs.declared.Address.{Address}
 use Rattle.address.specs.declared.Address.the-variants.{V4, V6}
 use Rattle.address_groups.specs.Groups.{groupsOf}
-use Rattle.octets.specs.BigEndian.{digitsOf}
 use Rattle.digits.specs.Numerals.{numeral, lower}
-use Rattle.digits.specs.Pieces.{separated}
 use Rattle.digits.proofs.NumeralLaws.{numeral-lower}
 use Rattle.ipv4_text.specs.Dotted.{dottedText}
 use Rattle.zero_runs.specs.Runs.{longestRun, firstRun}

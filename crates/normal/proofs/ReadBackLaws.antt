@@ -9,28 +9,31 @@ use borrow.Author.Tests.{le-ltb, ltb-false}
 use lib.Dec.{eqb, ltb, lit<, lit≤}
 use lib.ListN.{length, take, drop, replicate, length-drop, take-append-drop}
 use lib.Seq.{length-take-le, drop-drop}
+use Rattle.notation.specs.BigEndian.{AllBelow, digitsOf}
+use Rattle.notation.specs.Pieces.{contains, Lacks}
+use Rattle.notation.specs.Options.{every}
+use Rattle.notation.proofs.DigitLaws.{digits-length, digits-number, digits-below, below-take, below-drop}
+use Rattle.notation.proofs.SeparatedLaws.{lacks-append}
+use Rattle.notation.proofs.EveryLaws.{every-written}
 use Rattle.address.specs.declared.Address.{Address}
 use Rattle.address.specs.declared.Address.the-variants.{V4, V6}
 use Rattle.address.specs.Addresses.{IsAddress, family, number}
 use Rattle.address.specs.Answers.{readAnswer, noAddress, gives}
-use Rattle.octets.specs.BigEndian.{AllBelow, digitsOf}
 use Rattle.address_groups.specs.Groups.{groupsOf, groupsAddress}
 use Rattle.address_groups.proofs.Claims.{halves-of-groups}
-use Rattle.octets.proofs.DigitLaws.{digits-length, digits-number, digits-below, below-take, below-drop}
 use Rattle.digits.specs.Numerals.{digitOf, groupOf, decimal, hex}
-use Rattle.digits.specs.Pieces.{contains}
 use Rattle.digits.proofs.NumeralLaws.{hex-group}
-use Rattle.digits.proofs.SeparatedLaws.{Lacks, lacks-append, numerals-lack}
+use Rattle.digits.proofs.SeparatedNumeralLaws.{numerals-lack}
+use Rattle.ipv4_text.specs.Dotted.{dottedText, dottedOf}
+use Rattle.ipv4_text.proofs.PartLaws.{every-decimal}
 use Rattle.ipv6_text.specs.EightGroups.{eightOf}
-use Rattle.text.specs.Strict.{strictOf, strictAnswer}
 use Rattle.ipv6_text.proofs.ColonLaws.{colon-not-dotted}
+use Rattle.text.specs.Strict.{strictOf, strictAnswer}
 use Rattle.text.proofs.FamilyLaws.{eight-colon}
 use Rattle.text.proofs.SpellingLaws.{dotted-spelling, eight-spelling, gap-spelling}
-use Rattle.ipv4_text.specs.Dotted.{dottedText, every, dottedOf}
-use Rattle.ipv4_text.proofs.EveryLaws.{every-written, every-decimal}
 use Rattle.zero_runs.specs.Runs.{ZeroRun, longestRun, firstRun}
-use Rattle.normal.specs.Normal.{groupsText, shortened, normalGroups, normalText}
 use Rattle.zero_runs.proofs.RunLaws.{run-is}
+use Rattle.normal.specs.Normal.{groupsText, shortened, normalGroups, normalText}
 use Rattle.normal.proofs.BoundLaws.{text-most}
 
 -- ---- numbers, each written and read

@@ -4,11 +4,11 @@ use mathlib.Core.List.{List, _∷_, _++_, map}
 use Prim.Native.Nat.{ℕ, _+_}
 use lib.Dec.{ltb}
 use lib.ListN.{take, drop}
+use Rattle.notation.specs.Pieces.{separated}
 use Rattle.address.specs.declared.Address.{Address}
 use Rattle.address.specs.declared.Address.the-variants.{V4, V6}
 use Rattle.address_groups.specs.Groups.{groupsOf}
 use Rattle.digits.specs.Numerals.{hex}
-use Rattle.digits.specs.Pieces.{separated}
 use Rattle.ipv4_text.specs.Dotted.{dottedText}
 use Rattle.zero_runs.specs.Runs.{longestRun, firstRun}
 

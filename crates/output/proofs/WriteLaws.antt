@@ -8,7 +8,7 @@ use native.Mathlib.Decide.{decLe}
 use native.Mathlib.Omega.{arith}
 use borrow.Author.Tests.{lt-ltb, le-leb, lt-leb}
 use lib.Dec.{leb, lit<}
-use Rattle.octets.specs.BigEndian.{digitsOf}
+use Rattle.notation.specs.BigEndian.{digitsOf}
 use Rattle.digits.specs.Numerals.{digitByte, trimmed, numeral, decimal}
 
 -- ---- digits without leading zeros

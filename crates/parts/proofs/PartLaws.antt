@@ -11,8 +11,9 @@ use borrow.Author.Tests.{lt-ltb, le-ltb, lt-leb, le-leb, eq-eqb, ne-eqb, ltb-tru
 use lib.Dec.{ltb, leb, eqb}
 use lib.ListN.{length, take, drop, getD, length-drop, drop-of-length-le}
 use lib.Seq.{drop-cons, getD-drop, length-take-le}
+use Rattle.notation.specs.Ascii.{within}
 use Rattle.digits.specs.declared.read.Leading.the-variants.{Nothing}
-use Rattle.digits.specs.Numerals.{within, digitOf, textNumber, atMost, leadingZero, partOf, digitCount, asLeading, leading}
+use Rattle.digits.specs.Numerals.{digitOf, textNumber, atMost, leadingZero, partOf, digitCount, asLeading, leading}
 use Rattle.digits.proofs.LeadingLaws.{Scan, scan-start, scan-more, scan-stop, lead-number, lead-empty, count-le}
 use Rattle.parts.specs.Decimals.{decimalOf}
 

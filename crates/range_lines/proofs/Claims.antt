@@ -5,7 +5,7 @@ use mathlib.Core.List.{List, [], _∷_, _++_, append-assoc, append-nil, flatten,
 use Prim.Native.Nat.{ℕ, zero, suc, _≤_, _<_}
 use native.Mathlib.Omega.{arith}
 use lib.ListN.{length, drop, length-append}
-use Rattle.digits.proofs.SeparatedLaws.{Lacks}
+use Rattle.notation.specs.Pieces.{Lacks}
 use Rattle.range_text.specs.RangeText.{lineText}
 use Rattle.range_text.specs.LineForm.{newline, AllFree, ended, RangeLine, FewestLines}
 use Rattle.range_text.proofs.Claims as range

@@ -4,7 +4,7 @@ use mathlib.Core.List.{List, [], _∷_, _++_, append-assoc, flatten}
 use Prim.Native.Nat.{ℕ, zero, suc, _≤_}
 use native.Mathlib.Omega.{arith}
 use lib.ListN.{length, drop, length-drop}
-use Rattle.digits.proofs.SeparatedLaws.{Lacks}
+use Rattle.notation.specs.Pieces.{Lacks}
 use Rattle.range_lines.specs.Lines.{programText, turnUsed, turnText, turnLeft, turns, fed, fedAll}
 use Rattle.range_lines.proofs.LinesLaws.{begun, begun-start, begun-end, nothing-lacks, left-lacks, used-some, turn-law}
 

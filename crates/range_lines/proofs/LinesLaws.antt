@@ -9,9 +9,9 @@ use borrow.Author.Tests.{eqb-true}
 use lib.Dec.{eqb}
 use lib.ListN.{length, take, drop, length-append, length-take}
 use lib.Seq.{take-all, take-append-le, drop-append-le, drop-length, append-snoc}
-use Rattle.digits.specs.Pieces.{contains, indexOf, splitOn}
-use Rattle.digits.proofs.PieceLaws.{index-contains, index-lacks, split-found, split-first}
-use Rattle.digits.proofs.SeparatedLaws.{Lacks, lacks-cons, lacks-append, split-lacks}
+use Rattle.notation.specs.Pieces.{contains, indexOf, splitOn, Lacks}
+use Rattle.notation.proofs.PieceLaws.{index-contains, index-lacks, split-found, split-first}
+use Rattle.notation.proofs.SeparatedLaws.{lacks-cons, lacks-append, split-lacks}
 use Rattle.range_text.specs.RangeText.{lineText}
 use Rattle.range_text.proofs.RangeTextLaws.{line-long}
 use Rattle.range_lines.specs.Lines.{linesText, programText, kept, turnUsed, turnText, turnLeft}

@@ -3,7 +3,7 @@ use mathlib.Core.Bool.{cond}
 use mathlib.Core.List.{List, [], _∷_, _++_}
 use Prim.Native.Nat.{ℕ, zero, suc, min}
 use lib.ListN.{length, take, drop}
-use Rattle.digits.specs.Pieces.{contains, indexOf, splitOn}
+use Rattle.notation.specs.Pieces.{contains, indexOf, splitOn}
 use Rattle.range_text.specs.RangeText.{lineText}
 use Rattle.range_lines.specs.declared.Pending.{Pending}
 

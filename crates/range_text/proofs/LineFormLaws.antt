@@ -12,6 +12,10 @@ use lib.Dec.{eqb}
 use lib.ListN.{length}
 use lib.Pow.{high, low}
 use lib.Seq.{append-snoc}
+use Rattle.notation.specs.Ascii.{ascii}
+use Rattle.notation.specs.Pieces.{contains, onFirst, splitOn, separated, Lacks}
+use Rattle.notation.proofs.PieceLaws.{split-first}
+use Rattle.notation.proofs.SeparatedLaws.{lacks-cons, split-lacks, split-separated}
 use Rattle.cover.specs.Blocks as cover
 use Rattle.cover.proofs.Claims.{range-is-fewest, one-fewest}
 use Rattle.address.specs.declared.Address.{Address}
@@ -24,15 +28,11 @@ use Rattle.address.specs.Answers.{refusalNumber, gives, refuses, noAddress, rea
 use Rattle.address.specs.Blocks.{numbered}
 use Rattle.address.proofs.AddressLaws.{width-follows}
 use Rattle.address.proofs.Claims.{gives-one, address-below}
-use Rattle.digits.specs.Ascii.{ascii}
 use Rattle.digits.specs.Numerals.{numeral}
-use Rattle.digits.specs.Pieces.{contains, onFirst, splitOn, separated}
-use Rattle.digits.proofs.PieceLaws.{split-first}
-use Rattle.digits.proofs.SeparatedLaws.{Lacks, lacks-cons, split-lacks, split-separated}
 use Rattle.text.specs.Strict.{strictOf, strictAnswer}
+use Rattle.text.specs.Inner.{asReading}
 use Rattle.text.proofs.StrictLaws.{strict-long, strict-read}
 use Rattle.text.proofs.MeaningLaws.{strict-address}
-use Rattle.text.specs.Inner.{asReading}
 use Rattle.blocks.specs.BlockText.{blockText}
 use Rattle.ranges.specs.Ranges.{blocksOf}
 use Rattle.range_text.specs.RangeText.{refusedLine, likeAddress, likeBlock, blockLines, rangeText, readText, piecesText, lineText}

@@ -8,6 +8,9 @@ use Prim.Native.Nat.{ℕ, suc}
 use native.Mathlib.Omega.{arith}
 use lib.Dec.{eqb, ltb, lit≤}
 use lib.ListN.{length, length-append}
+use Rattle.notation.specs.Ascii.{ascii}
+use Rattle.notation.specs.Pieces.{contains, Lacks}
+use Rattle.notation.proofs.SeparatedLaws.{lacks-append, seam}
 use Rattle.cover.specs.Blocks as cover
 use Rattle.address.specs.declared.Address.{Address}
 use Rattle.address.specs.declared.Block.{Block}
@@ -17,11 +20,8 @@ use Rattle.address.specs.Addresses.{family, width, number}
 use Rattle.address.specs.Answers.{gives, noBlock, readAnswer}
 use Rattle.address.specs.Blocks.{numbered, blockReasons}
 use Rattle.address.proofs.AddressLaws.{width-follows}
-use Rattle.digits.specs.Ascii.{ascii}
 use Rattle.digits.specs.Numerals.{digitOf, partOf}
-use Rattle.digits.specs.Pieces.{contains}
 use Rattle.digits.proofs.NumeralLaws.{no-digit, part-digits}
-use Rattle.digits.proofs.SeparatedLaws.{Lacks, lacks-append, seam}
 use Rattle.text.specs.Strict.{strictOf, strictAnswer}
 use Rattle.text.proofs.ByteLaws.{strict-lacks}
 use Rattle.blocks.specs.BlockText.{withLength, blockOf, blockText, blockTextAnswer}

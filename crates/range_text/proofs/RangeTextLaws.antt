@@ -10,6 +10,9 @@ use borrow.Author.Tests.{eq-eqb, ne-eqb, lt-ltb, le-ltb}
 use lib.Dec.{lit<}
 use lib.ListN.{length, take, drop, length-append}
 use lib.Seq.{take-at, drop-at}
+use Rattle.notation.specs.Pieces.{indexOf, splitOn}
+use Rattle.notation.proofs.PieceLaws.{split-found, split-last, split-first}
+use Rattle.notation.proofs.SliceLaws.{tail, to-end}
 use Rattle.cover.specs.Blocks as cover
 use Rattle.cover.proofs.Claims.{range-is-fewest}
 use Rattle.address.specs.declared.Address.{Address}
@@ -23,9 +26,6 @@ use Rattle.address.specs.Blocks.{numbered}
 use Rattle.address.proofs.AddressLaws.{width-follows}
 use Rattle.address.proofs.AnswerLaws.{number-pos, nonzero}
 use Rattle.address.proofs.Claims.{gives-one, address-below}
-use Rattle.digits.specs.Pieces.{indexOf, splitOn}
-use Rattle.digits.proofs.PieceLaws.{split-found, split-last, split-first}
-use Rattle.digits.proofs.SliceLaws.{tail, to-end}
 use Rattle.output.specs.Placing.{Puts}
 use Rattle.output.proofs.PlacingLaws.{puts-then, puts-none, puts-length}
 use Rattle.text.specs.Strict.{strictAnswer}

@@ -4,6 +4,7 @@ use mathlib.Core.Path.{_≡_}
 use mathlib.Core.List.{List, [], _∷_, _++_, map}
 use Prim.Native.Nat.{ℕ, _+_, _≤_, _<_}
 use lib.ListN.{length}
+use Rattle.notation.specs.Ascii.{ascii}
 use Rattle.cover.specs.Blocks.{Fewest, Range}
 use Rattle.address.specs.declared.Address.{Address}
 use Rattle.address.specs.declared.Block.{Block}
@@ -12,7 +13,6 @@ use Rattle.address.specs.declared.Refusal.the-variants.{TextTooLong, Malformed,
 use Rattle.address.specs.Addresses.{family, width, number, IsAddress}
 use Rattle.address.specs.Answers.{refusalNumber, gives, refuses, noAddress}
 use Rattle.address.specs.Blocks.{numbered}
-use Rattle.digits.specs.Ascii.{ascii}
 use Rattle.text.specs.Strict.{strictAnswer}
 use Rattle.blocks.specs.BlockText.{blockText, blockTextAnswer}
 

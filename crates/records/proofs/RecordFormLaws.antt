@@ -1,15 +1,16 @@
 -- Bytes read as a record: the form that they have, and what reading answers. Assumes nothing.
 use mathlib.Core.Path.{_≡_, refl, sym, ap, subst, _∙_}
-use mathlib.Core.Logic.{_⊎_}
 use mathlib.Core.List.{List, [], _∷_, _++_}
 use mathlib.Core.Option.{some}
-use Prim.Native.Nat.{ℕ, zero, suc, _+_, _-_, _%_, _^_, _≤_, _<_}
+use Prim.Native.Nat.{ℕ, zero, suc, _+_, _-_, _%_, _^_, _<_}
 use native.Mathlib.Decide.{decLe, ℕ-discrete}
 use native.Mathlib.Omega.{arith}
 use borrow.Author.Tests.{eq-eqb, ne-eqb}
 use lib.Dec.{lit<}
 use lib.ListN.{length, take, drop, getD, length-drop}
 use lib.Seq.{length-take-le}
+use Rattle.notation.specs.BigEndian.{AllBelow, digitsOf, numberOf}
+use Rattle.notation.proofs.DigitLaws.{below-take, below-drop, number-below, number-digits, halves-digits}
 use Rattle.address.specs.declared.Address.{Address}
 use Rattle.address.specs.declared.Address.the-variants.{V4}
 use Rattle.address.specs.declared.Block.{Block}
@@ -18,9 +19,7 @@ use Rattle.address.specs.Addresses.{IsAddress, width, number}
 use Rattle.address.specs.Answers.{Answer, noBlock, readAnswer}
 use Rattle.address.specs.Blocks.{blockReasons}
 use Rattle.address.proofs.BlockLaws.{refusal-length, refusal-bits, refusal-none, read-valid, read-refused}
-use Rattle.octets.specs.BigEndian.{AllBelow, digitsOf, numberOf}
 use Rattle.octets.specs.Octets.{octets, halves}
-use Rattle.octets.proofs.DigitLaws.{below-take, below-drop, number-below, number-digits, halves-digits}
 use Rattle.records.specs.Records.{recordBlock, recordAnswer}
 use Rattle.records.specs.RecordForm.{RecordForm, address-length, RecordCall, no-record, length-above, bits-beyond, block-record}
 use Rattle.records.proofs.RecordLaws.{layout, value-back, answer-block, answer-none, record-other}

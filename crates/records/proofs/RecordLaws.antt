@@ -12,6 +12,8 @@ use lib.Dec.{lit<}
 use borrow.Rule.Slice.PartMut.{putMid, midOf}
 use lib.ListN.{length, take, drop, getD, length-append, length-drop, take-append-drop}
 use lib.Seq.{length-take-le, take-at, take-add, drop-at, drop-drop, getD-at}
+use Rattle.notation.specs.BigEndian.{digitsOf, numberOf}
+use Rattle.notation.proofs.DigitLaws.{digits-length, digits-number, digits-split}
 use Rattle.cover.specs.Blocks as cover
 use Rattle.address.specs.declared.Address.{Address}
 use Rattle.address.specs.declared.Address.the-variants.{V4, V6}
@@ -24,9 +26,7 @@ use Rattle.address.specs.Blocks.{numbered, blockReasons, blockRefusal}
 use Rattle.address.proofs.AnswerLaws.{number-pos, write-short, write-fits}
 use Rattle.address.proofs.BlockLaws.{read-valid}
 use Rattle.address.proofs.BufferLaws.{rest, rest-whole}
-use Rattle.octets.specs.BigEndian.{digitsOf, numberOf}
 use Rattle.octets.specs.Octets.{octets, octetsAnswer, halves}
-use Rattle.octets.proofs.DigitLaws.{digits-length, digits-number, digits-split}
 use Rattle.octets.proofs.OctetLaws.{octets-length, read-other, leaves-fit, leaves-behind}
 use Rattle.octets.proofs.Claims.{octets-read-back}
 use Rattle.records.specs.Records.{recordSize, recordOf, blockRecord, partSizes, partsLeave, recordsOf, readRecord, readRecords, recordBlock, recordAnswer}

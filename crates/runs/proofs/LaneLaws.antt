@@ -8,11 +8,11 @@ use native.Mathlib.Decide.{decLe}
 use native.Mathlib.Omega.{arith}
 use lib.ListN.{length}
 use lib.Pow.{pow-add, pow-pos, pow-mono}
+use Rattle.wide.specs.Value.{value}
 use Rattle.wide.proofs.Aligned.{Aligned, quotient, aligned-gap, aligned-mono, aligned-pow}
 use Rattle.cover.specs.Blocks.{Block, largest, rangeBlocks}
 use Rattle.cover.proofs.Range.{MayStart, blockAt, largest-le, largest-may, largest-max, largest-is, range-largest, range-ind}
 use Rattle.records.specs.Records.{recordsOf}
-use Rattle.wide.specs.Value.{value}
 use Rattle.runs.specs.declared.Run.{Run}
 use Rattle.runs.specs.Runs.{Lane, Narrow, Lower, Upper, RunIs, laneOf, laneBits, laneBlock, laneBlocks, runRecords, FirstRun}
 use Rattle.runs.proofs.PartLaws.{pow-cancel, aligned-rest}

@@ -1,7 +1,7 @@
 -- What is claimed of the specimens (01, "Specimens on both sides"): computed, by the definitions that the contracts cite. Assumes nothing.
 use mathlib.Core.Path.{refl}
+use Rattle.notation.specs.Ascii.{ascii}
 use Rattle.address_groups.specs.Groups.{groupsOf, groupsAddress}
-use Rattle.digits.specs.Ascii.{ascii}
 use Rattle.digits.specs.Numerals.{groupOf, numeral}
 use Rattle.ipv4_text.specs.Dotted.{dottedText}
 use Rattle.text.specs.Strict.{strictAnswer}

@@ -4,12 +4,12 @@ use mathlib.Core.List.{List, [], _∷_}
 use Prim.Native.Nat.{ℕ}
 use Prim.Native.String.{String}
 use lib.ListN.{replicate}
+use Rattle.notation.specs.BigEndian.{numberOf}
+use Rattle.notation.specs.Ascii.{ascii}
 use Rattle.address.specs.declared.Address.{Address}
 use Rattle.address.specs.declared.Address.the-variants.{V4, V6}
 use Rattle.address.specs.declared.Block.{Block}
 use Rattle.address.specs.Answers.{Answer, gives, noAddress, noBlock}
-use Rattle.octets.specs.BigEndian.{numberOf}
-use Rattle.digits.specs.Ascii.{ascii}
 use Rattle.text.specs.Strict.{strictAnswer}
 use Rattle.normal.specs.Normal.{normalText}
 use Rattle.loose.specs.Loose.{looseAnswer}

@@ -8,16 +8,17 @@ use native.Mathlib.Omega.{arith}
 use borrow.Author.Tests.{eqb-true, ltb-true}
 use lib.Dec.{eqb, ltb, lit≤}
 use lib.ListN.{length, take, drop}
+use Rattle.notation.specs.BigEndian.{digitsOf}
+use Rattle.notation.specs.Pieces.{contains, splitOn, Lacks, Each}
+use Rattle.notation.specs.Options.{joined, single, orElse}
+use Rattle.notation.proofs.SeparatedLaws.{lacks-cons, lacks-split}
 use Rattle.address.specs.declared.Address.{Address}
 use Rattle.address.specs.declared.Address.the-variants.{V4}
-use Rattle.octets.specs.BigEndian.{digitsOf}
 use Rattle.address_groups.specs.Groups.{groupsAddress}
 use Rattle.digits.specs.Numerals.{digitOf, groupOf}
-use Rattle.digits.specs.Pieces.{contains, splitOn}
 use Rattle.digits.proofs.NumeralLaws.{no-digit, group-digits}
-use Rattle.digits.proofs.SeparatedLaws.{Lacks, Each, lacks-cons, lacks-split}
-use Rattle.ipv4_text.specs.Dotted.{joined, single, dottedOf}
-use Rattle.ipv6_text.specs.EightGroups.{orElse, tailOf, piecesOf, sideOf, gapOf, filled, eight, eightOf}
+use Rattle.ipv4_text.specs.Dotted.{dottedOf}
+use Rattle.ipv6_text.specs.EightGroups.{tailOf, piecesOf, sideOf, gapOf, filled, eight, eightOf}
 use Rattle.ipv6_text.proofs.ColonLaws.{dotted-lacks}
 use Rattle.text.specs.Strict.{strictOf}
 

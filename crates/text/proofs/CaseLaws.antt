@@ -6,10 +6,11 @@ use mathlib.Core.Option.{Option}
 use Prim.Native.Nat.{ℕ, zero, suc, _+_, _<_}
 use lib.Dec.{eqb, lit<}
 use lib.ListN.{take, drop, length-map}
+use Rattle.notation.specs.Pieces.{onFirst, splitOn}
+use Rattle.notation.specs.Options.{every}
 use Rattle.digits.specs.Numerals.{lower, digitOf, allDigits, textNumber, leadingZero, partOf, groupOf}
-use Rattle.digits.specs.Pieces.{onFirst, splitOn}
 use Rattle.digits.proofs.NumeralLaws.{lower-digit, lower-same}
-use Rattle.ipv4_text.specs.Dotted.{every, dottedOf}
+use Rattle.ipv4_text.specs.Dotted.{dottedOf}
 use Rattle.ipv6_text.specs.EightGroups.{piecesOf, sideOf, gapOf, eightOf}
 use Rattle.text.specs.Strict.{strictOf}
 

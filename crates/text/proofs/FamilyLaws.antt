@@ -7,17 +7,18 @@ use Prim.Native.Nat.{ℕ, suc, _+_}
 use native.Mathlib.Omega.{arith}
 use borrow.Author.Tests.{le-ltb}
 use lib.ListN.{length}
+use Rattle.notation.specs.BigEndian.{digitsOf}
+use Rattle.notation.specs.Pieces.{contains, Lacks}
+use Rattle.notation.specs.Options.{single, orElse}
+use Rattle.notation.proofs.SeparatedLaws.{split-lacks}
 use Rattle.address.specs.declared.Address.{Address}
 use Rattle.address.specs.declared.Address.the-variants.{V4}
-use Rattle.octets.specs.BigEndian.{digitsOf}
 use Rattle.address_groups.specs.Groups.{groupsAddress}
 use Rattle.digits.specs.Numerals.{groupOf}
-use Rattle.digits.specs.Pieces.{contains}
-use Rattle.digits.proofs.SeparatedLaws.{Lacks, split-lacks}
-use Rattle.ipv4_text.specs.Dotted.{single, dottedOf}
-use Rattle.ipv6_text.specs.EightGroups.{orElse, piecesOf, gapOf, eight, eightOf}
-use Rattle.text.specs.Strict.{strictOf}
+use Rattle.ipv4_text.specs.Dotted.{dottedOf}
+use Rattle.ipv6_text.specs.EightGroups.{piecesOf, gapOf, eight, eightOf}
 use Rattle.ipv6_text.proofs.ColonLaws.{dotted-no-colon}
+use Rattle.text.specs.Strict.{strictOf}
 use Rattle.text.proofs.SpellingLaws.{gap-piece}
 
 -- ---- IPv6

@@ -9,19 +9,20 @@ use borrow.Author.Tests.{eqb-true, leb-true}
 use lib.Dec.{eqb, leb, ltb, lit<}
 use lib.ListN.{length, take, drop, replicate, length-append, length-replicate, length-drop}
 use lib.Seq.{length-take-le}
+use Rattle.notation.specs.BigEndian.{AllBelow, digitsOf}
+use Rattle.notation.specs.Pieces.{splitOn}
+use Rattle.notation.specs.Options.{joined, single, orElse}
+use Rattle.notation.proofs.DigitLaws.{below-append, zeros-below, digits-below, number-below, below-take, below-drop}
 use Rattle.address.specs.declared.Address.{Address}
 use Rattle.address.specs.declared.Address.the-variants.{V4}
 use Rattle.address.specs.Addresses.{IsAddress}
-use Rattle.octets.specs.BigEndian.{AllBelow, digitsOf}
 use Rattle.address_groups.specs.Groups.{groupsAddress}
-use Rattle.octets.proofs.DigitLaws.{below-append, zeros-below, digits-below, number-below, below-take, below-drop}
 use Rattle.digits.specs.Numerals.{groupOf}
-use Rattle.digits.specs.Pieces.{splitOn}
 use Rattle.digits.proofs.NumeralLaws.{group-digits}
-use Rattle.ipv4_text.specs.Dotted.{joined, single, dottedOf}
-use Rattle.ipv6_text.specs.EightGroups.{orElse, tailOf, piecesOf, sideOf, gapOf, filled, eight, eightOf}
-use Rattle.text.specs.Strict.{strictOf}
+use Rattle.ipv4_text.specs.Dotted.{dottedOf}
 use Rattle.ipv4_text.proofs.DottedLaws.{dotted-octets}
+use Rattle.ipv6_text.specs.EightGroups.{tailOf, piecesOf, sideOf, gapOf, filled, eight, eightOf}
+use Rattle.text.specs.Strict.{strictOf}
 
 -- ---- groups
 

@@ -9,13 +9,15 @@ use borrow.Author.Tests.{eq-eqb, le-leb, lt-ltb, le-ltb}
 use lib.Dec.{eqb, ltb, lit≤}
 use lib.ListN.{length, replicate, length-append}
 use lib.Seq.{take-append-seam, drop-append-add}
-use Rattle.octets.specs.BigEndian.{numberOf}
+use Rattle.notation.specs.BigEndian.{numberOf}
+use Rattle.notation.specs.Pieces.{separated, splitOn, Lacks, Each}
+use Rattle.notation.specs.Options.{every}
+use Rattle.notation.proofs.SeparatedLaws.{lacks-cons, split-separated, separated-cons}
+use Rattle.notation.proofs.EveryLaws.{Reads, done, more, every-reads, reads-each, reads-length}
 use Rattle.digits.specs.Numerals.{digitOf, partOf, groupOf}
-use Rattle.digits.specs.Pieces.{separated, splitOn}
 use Rattle.digits.proofs.NumeralLaws.{no-digit, group-digits}
-use Rattle.digits.proofs.SeparatedLaws.{Lacks, Each, lacks-cons, split-separated, separated-cons}
-use Rattle.ipv4_text.specs.Dotted.{single, every, dottedOf}
-use Rattle.ipv4_text.proofs.EveryLaws.{Reads, done, more, every-reads, reads-each, reads-length, part-lacks}
+use Rattle.ipv4_text.specs.Dotted.{dottedOf}
+use Rattle.ipv4_text.proofs.PartLaws.{part-lacks}
 use Rattle.ipv6_text.specs.EightGroups.{piecesOf, sideOf, gapOf, eightOf}
 
 -- ---- IPv4

@@ -7,6 +7,7 @@ use Prim.Native.Nat.{ℕ, _≤_, _<_}
 use native.Mathlib.Omega.{arith}
 use borrow.Author.Tests.{lt-ltb, le-ltb, ne-eqb}
 use lib.ListN.{length}
+use Rattle.notation.specs.Options.{orElse}
 use Rattle.address.specs.declared.Address.{Address}
 use Rattle.address.specs.declared.Address.the-variants.{V4}
 use Rattle.address.specs.declared.Reading.the-variants.{Read, Refused}
@@ -15,8 +16,8 @@ use Rattle.address.specs.declared.Refusal.the-variants.{TextTooLong, WrongFamil
 use Rattle.address.specs.Answers.{refuses, noAddress, readingAnswer, readAnswer}
 use Rattle.address_groups.specs.Groups.{groupsAddress}
 use Rattle.ipv4_text.specs.Dotted.{dottedOf}
+use Rattle.ipv6_text.specs.EightGroups.{eightOf}
 use Rattle.text.specs.Inner.{asReading}
-use Rattle.ipv6_text.specs.EightGroups.{orElse, eightOf}
 use Rattle.text.specs.Strict.{strictOf, knownFamily, strictAnswer}
 
 -- what an answer says of the definition

@@ -5,12 +5,13 @@ use mathlib.Core.Option.{Option, none, Option·map}
 use Prim.Native.Nat.{ℕ}
 use lib.Dec.{ltb, eqb}
 use lib.ListN.{length}
+use Rattle.notation.specs.Options.{orElse}
 use Rattle.address.specs.declared.Address.{Address}
 use Rattle.address.specs.declared.Address.the-variants.{V4}
 use Rattle.address.specs.Answers.{Answer, readAnswer, noAddress}
 use Rattle.address_groups.specs.Groups.{groupsAddress}
 use Rattle.ipv4_text.specs.Dotted.{dottedOf}
-use Rattle.ipv6_text.specs.EightGroups.{orElse, eightOf}
+use Rattle.ipv6_text.specs.EightGroups.{eightOf}
 
 -- the address of a strict text of family 4, of family 6, or else of either
 unfoldable pub strictOf : ℕ → List ℕ → Option Address

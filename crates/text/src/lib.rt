@@ -1,12 +1,13 @@
 // Strict text of IPv4 and IPv6 addresses, read.
 ghost use mathlib.Core.Path.{_≡_};
 ghost use mathlib.Core.Option.{Option·map};
+ghost use Rattle.notation.specs.Options.{orElse};
 ghost use Rattle.address.specs.Answers.{readingAnswer};
 ghost use Rattle.address.specs.declared.Address.the-variants.{V4};
 ghost use Rattle.address_groups.specs.Groups.{groupsAddress};
 ghost use Rattle.ipv4_text.specs.Dotted.{dottedOf};
+ghost use Rattle.ipv6_text.specs.EightGroups.{eightOf};
 ghost use Rattle.text.specs.Inner.{asReading};
-ghost use Rattle.ipv6_text.specs.EightGroups.{orElse, eightOf};
 ghost use Rattle.text.specs.Strict.{knownFamily, strictAnswer};
 use address::Address;
 use address::Reading;

@@ -7,12 +7,12 @@ use mathlib.Core.Option.{some, Option·getD}
 use Prim.Native.Nat.{ℕ, _≤_, _<_}
 use lib.Dec.{leb, ltb, eqb}
 use lib.ListN.{length}
+use Rattle.notation.specs.Ascii.{within}
 use Rattle.address.specs.declared.Refusal.{Refusal}
 use Rattle.address.specs.declared.Refusal.the-variants.{TextTooLong, Malformed, NoRoom, LengthTooLarge, BitsBeyondLength, NoClass, HostTooLarge, FirstAboveLast, WrongFamily}
 use Rattle.address.specs.Answers.{Answer, refusalNumber, missing, refusal, gives, writeAnswer}
 use Rattle.address.proofs.Claims.{one-number}
 use Rattle.address.proofs.Claims as address
-use Rattle.digits.specs.Numerals.{within}
 use Rattle.words.specs.Words.{table, wordsIn, refusalWords, wordsText, wordsReasons}
 use Rattle.words.proofs.WordsLaws as laws
 

@@ -4,8 +4,8 @@ use mathlib.Core.List.{List, [], _∷_}
 use mathlib.Core.Option.{Option, some, none, Option·getD}
 use Prim.Native.Nat.{ℕ}
 use lib.Dec.{eqb}
+use Rattle.notation.specs.Ascii.{ascii}
 use Rattle.address.specs.Answers.{missing}
-use Rattle.digits.specs.Ascii.{ascii}
 
 -- the table's numbers, each with its words
 abbrev pub table : List (ℕ × List ℕ)

@@ -4,10 +4,10 @@ use native.Mathlib.Omega.{arith}
 use borrow.Author.Needs.{needs}
 use lib.ListN.{length, drop, length-drop}
 use lib.Seq.{take-all}
+use Rattle.notation.specs.BigEndian.{numberOf}
+use Rattle.notation.proofs.DigitLaws.{take-four, four-number}
 use Rattle.address.specs.declared.Address.the-variants.{V6}
 use Rattle.address_groups.specs.Groups.{groupsAddress}
-use Rattle.octets.specs.BigEndian.{numberOf}
-use Rattle.octets.proofs.DigitLaws.{take-four, four-number}
 use Rattle.address_groups.proofs.from_groups.Statement.{statement}
 use Rattle.address_groups.proofs.from_groups.Tie as tie
 

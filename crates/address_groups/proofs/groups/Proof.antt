@@ -5,8 +5,8 @@ use Prim.Native.Nat.{_<_, _^_}
 use native.Mathlib.Omega.{arith}
 use borrow.Author.Needs.{needs}
 use lib.Dec.{lit<}
+use Rattle.notation.proofs.DigitLaws.{digits-split, four-digits}
 use Rattle.address_groups.specs.Groups.{groupsOf}
-use Rattle.octets.proofs.DigitLaws.{digits-split, four-digits}
 use Rattle.address_groups.proofs.groups.Statement.{statement}
 use Rattle.address_groups.proofs.groups.Tie as tie
 

@@ -5,8 +5,8 @@ use borrow.Author.Needs.{needs}
 use denote.Ref.{now}
 use lib.ListN.{take}
 use lib.Seq.{length-take-le}
-use Rattle.digits.specs.Pieces.{indexOf}
-use Rattle.digits.proofs.PieceLaws.{index-le}
+use Rattle.notation.specs.Pieces.{indexOf}
+use Rattle.notation.proofs.PieceLaws.{index-le}
 use Rattle.ipv4_text.specs.declared.Parts.the-variants.{Numbers}
 use Rattle.ipv4_text.specs.Dotted.{partsOf, asParts}
 use Rattle.given.specs.GivenBytes.{beforeSlash, asGiven}

@@ -5,10 +5,10 @@ use borrow.Author.Needs.{needs}
 use borrow.Author.Tests.{not-true, not-false}
 use denote.Ref.{now}
 use lib.ListN.{drop}
+use Rattle.notation.specs.Pieces.{indexOf}
+use Rattle.notation.proofs.SliceLaws.{tail, to-end}
 use Rattle.digits.specs.Numerals.{hexMarked}
-use Rattle.digits.specs.Pieces.{indexOf}
 use Rattle.digits.proofs.MarkLaws.{marked-long}
-use Rattle.digits.proofs.SliceLaws.{tail, to-end}
 use Rattle.given.specs.declared.Given.the-variants.{Bytes}
 use Rattle.given.specs.GivenBytes.{hexBytes, beforeSlash, asGiven}
 use Rattle.given.proofs.GivenLaws.{hex-not-given, slash-within, hex-is-given, given-parts}

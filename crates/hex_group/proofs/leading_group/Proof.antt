@@ -6,7 +6,7 @@ use native.Mathlib.Omega.{arith}
 use denote.Ref.{now}
 use lib.Count.{trailingZeros}
 use lib.ListN.{getD}
-use Rattle.octets.specs.BigEndian.{numberOf}
+use Rattle.notation.specs.BigEndian.{numberOf}
 use Rattle.digits.specs.Numerals.{digitOf, digitCount}
 use Rattle.hex_group.specs.Bytes.{bytesOf, firstFour, flagOf, nibbleOf}
 use Rattle.hex_group.proofs.ByteLaws.{count-is}

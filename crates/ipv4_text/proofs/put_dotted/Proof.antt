@@ -2,8 +2,8 @@
 use native.Mathlib.Omega.{arith}
 use borrow.Author.Needs.{needs}
 use lib.Dec.{lit<}
-use Rattle.octets.proofs.DigitLaws.{four-digits}
-use Rattle.digits.specs.Pieces.{separated}
+use Rattle.notation.specs.Pieces.{separated}
+use Rattle.notation.proofs.DigitLaws.{four-digits}
 use Rattle.output.proofs.PlacingLaws.{puts-then}
 use Rattle.ipv4_text.specs.Dotted.{dottedText}
 use Rattle.ipv4_text.proofs.put_dotted.Statement.{statement}

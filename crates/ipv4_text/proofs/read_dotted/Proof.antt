@@ -8,7 +8,7 @@ use borrow.Author.Tests.{eq-eqb, ne-eqb}
 use borrow.Author.Needs.{needs}
 use denote.Ref.{now}
 use lib.ListN.{length}
-use Rattle.octets.specs.BigEndian.{numberOf}
+use Rattle.notation.specs.BigEndian.{numberOf}
 use Rattle.ipv4_text.specs.Dotted.{partsOf, asDotted}
 use Rattle.ipv4_text.proofs.DottedLaws.{numbers-says, not-parts-says, parts-are, dotted-parts, dotted-none}
 use Rattle.ipv4_text.proofs.read_dotted.Statement.{statement}

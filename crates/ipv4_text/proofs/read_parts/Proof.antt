@@ -9,10 +9,10 @@ use borrow.Author.Needs.{needs}
 use denote.Ref.{now}
 use lib.Arith.{digits-lt}
 use lib.ListN.{length}
+use Rattle.notation.specs.Pieces.{splitOn}
+use Rattle.notation.proofs.SliceLaws.{to-end-shorter}
 use Rattle.digits.specs.declared.read.Leading.the-variants.{Number}
 use Rattle.digits.specs.Numerals.{partOf, leading}
-use Rattle.digits.specs.Pieces.{splitOn}
-use Rattle.digits.proofs.SliceLaws.{to-end-shorter}
 use Rattle.ipv4_text.specs.Dotted.{partsOf, asParts}
 use Rattle.ipv4_text.proofs.DottedLaws.{partsFrom, parts-start, parts-nothing, parts-over, parts-other, parts-more, parts-end, part-small, room}
 use Rattle.ipv4_text.proofs.read_parts.Statement.{statement}

@@ -5,7 +5,8 @@ use Prim.Native.Nat.{_/_, _%_}
 use native.Mathlib.Omega.{arith}
 use denote.Ref.{now}
 use lib.ListN.{take}
-use Rattle.ipv4_text.specs.Dotted.{joined, dottedOf}
+use Rattle.notation.specs.Options.{joined}
+use Rattle.ipv4_text.specs.Dotted.{dottedOf}
 use Rattle.ipv4_text.proofs.DottedLaws.{value-says, not-says}
 use Rattle.ipv6_text.specs.EightGroups.{tailOf}
 use Rattle.ipv6_text.proofs.GroupLaws.{two-digits}

@@ -8,8 +8,8 @@ use native.Mathlib.Omega.{arith}
 use denote.Ref.{now}
 use lib.ListN.{length, take}
 use lib.Seq.{length-take-le}
-use Rattle.digits.proofs.SliceLaws.{tail}
-use Rattle.ipv4_text.specs.Dotted.{joined}
+use Rattle.notation.specs.Options.{joined}
+use Rattle.notation.proofs.SliceLaws.{tail}
 use Rattle.ipv6_text.specs.Inner.{firstSide, LaidOut}
 use Rattle.ipv6_text.specs.EightGroups.{sideOf}
 use Rattle.ipv6_text.proofs.GapLaws.{gap-two}

@@ -10,9 +10,9 @@ use denote.Ref.{now}
 use mir.Syntax.{w16}
 use mir.Val.{Fits}
 use lib.ListN.{length, take, drop}
+use Rattle.notation.proofs.SliceLaws.{tail, to-end, to-end-shorter, to-end-less}
 use Rattle.digits.specs.declared.read.Leading.the-variants.{Number}
 use Rattle.digits.specs.Numerals.{groupOf, leading}
-use Rattle.digits.proofs.SliceLaws.{tail, to-end, to-end-shorter, to-end-less}
 use Rattle.ipv6_text.specs.Inner.{colonFirst}
 use Rattle.ipv6_text.proofs.GroupLaws.{group-small}
 use Rattle.ipv6_text.proofs.GapLaws.{first-nothing, first-other, first-last, first-gap, first-more, colon-some}

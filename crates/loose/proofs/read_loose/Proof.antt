@@ -10,11 +10,11 @@ use borrow.Author.Needs.{needs}
 use denote.Ref.{now}
 use lib.Arith.{digits-lt}
 use lib.ListN.{length}
+use Rattle.notation.specs.Pieces.{splitOn}
+use Rattle.notation.proofs.SliceLaws.{to-end-shorter}
 use Rattle.address.specs.declared.Refusal.the-variants.{Malformed}
 use Rattle.address.specs.Answers.{refuses, noAddress, readAnswer}
 use Rattle.digits.specs.declared.read.Leading.the-variants.{Number}
-use Rattle.digits.specs.Pieces.{splitOn}
-use Rattle.digits.proofs.SliceLaws.{to-end-shorter}
 use Rattle.ipv4_text.proofs.DottedLaws.{room}
 use Rattle.loose.specs.Inner.{leadingLoose}
 use Rattle.loose.specs.Loose.{looseOf, looseAnswer}

@@ -3,7 +3,7 @@ use mathlib.Core.Path.{_≡_, sym, _∙_}
 use Prim.Native.Nat.{_≤_}
 use borrow.Author.Needs.{needs}
 use denote.Ref.{now}
-use Rattle.digits.specs.Pieces.{indexOf}
+use Rattle.notation.specs.Pieces.{indexOf}
 use Rattle.given.specs.declared.Given.the-variants.{Bytes}
 use Rattle.given.specs.GivenBytes.{givenOf, beforeSlash, asGiven}
 use Rattle.network.proofs.NetworkLaws.{given-count, inferred-most, answer-long, none-given, slash-at, no-size, inferred-stored, sized-large, sized-stored}

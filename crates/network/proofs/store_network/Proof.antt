@@ -5,9 +5,9 @@ use native.Mathlib.Omega.{arith}
 use borrow.Author.Needs.{needs}
 use lib.ListN.{length, take}
 use lib.Seq.{length-take-le}
+use Rattle.notation.specs.BigEndian.{digitsOf}
+use Rattle.notation.proofs.DigitLaws.{digits-length}
 use Rattle.address.specs.Answers.{writingAnswer}
-use Rattle.octets.specs.BigEndian.{digitsOf}
-use Rattle.octets.proofs.DigitLaws.{digits-length}
 use Rattle.network_text.specs.NetworkText.{sizeBytes}
 use Rattle.network.proofs.NetworkLaws.{octets-stored, octets-front, store-wrote, store-refused}
 use Rattle.network.proofs.store_network.Statement.{statement}

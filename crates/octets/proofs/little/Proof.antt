@@ -2,8 +2,8 @@
 use mathlib.Core.Path.{sym, ap, _∙_}
 use mathlib.Core.List.{reverse}
 use borrow.Author.Needs.{needs}
-use Rattle.octets.specs.BigEndian.{numberOf}
-use Rattle.octets.proofs.DigitLaws.{take-four, four-number}
+use Rattle.notation.specs.BigEndian.{numberOf}
+use Rattle.notation.proofs.DigitLaws.{take-four, four-number}
 use Rattle.octets.proofs.little.Statement.{statement}
 use Rattle.octets.proofs.little.Tie as tie
 

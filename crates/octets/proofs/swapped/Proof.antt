@@ -5,8 +5,8 @@ use Prim.Native.Nat.{_+_, _*_, _/_, _%_, _^_, _<_}
 use native.Mathlib.Omega.{arith}
 use borrow.Author.Needs.{needs}
 use lib.Dec.{lit<}
-use Rattle.octets.specs.BigEndian.{numberOf}
-use Rattle.octets.proofs.DigitLaws.{four-digits, four-number}
+use Rattle.notation.specs.BigEndian.{numberOf}
+use Rattle.notation.proofs.DigitLaws.{four-digits, four-number}
 use Rattle.octets.proofs.swapped.Statement.{statement}
 use Rattle.octets.proofs.swapped.Tie as tie
 

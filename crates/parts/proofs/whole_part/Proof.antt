@@ -4,7 +4,7 @@ use native.Mathlib.Omega.{arith}
 use borrow.Author.Needs.{needs}
 use denote.Ref.{now}
 use Rattle.digits.specs.Numerals.{partOf}
-use Rattle.digits.proofs.PieceLaws.{part-reads, whole-nothing, whole-short, whole-number}
+use Rattle.digits.proofs.FirstPieceLaws.{part-reads, whole-nothing, whole-short, whole-number}
 use Rattle.parts.proofs.whole_part.Statement.{statement}
 use Rattle.parts.proofs.whole_part.Tie as tie
 

@@ -3,7 +3,7 @@ use mathlib.Core.Path.{sym, _∙_}
 use native.Mathlib.Omega.{arith}
 use borrow.Author.Needs.{needs}
 use lib.Seq.{length-take-le}
-use Rattle.digits.proofs.PieceLaws.{index-le}
+use Rattle.notation.proofs.PieceLaws.{index-le}
 use Rattle.output.proofs.PlacingLaws.{puts-none}
 use Rattle.range_lines.specs.Lines.{pendingText}
 use Rattle.range_lines.proofs.LinesLaws.{turn-found, turn-none}

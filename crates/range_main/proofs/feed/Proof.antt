@@ -5,7 +5,7 @@ use native.Mathlib.Omega.{arith}
 use borrow.Author.Needs.{needs}
 use denote.Ref.{now}
 use lib.ListN.{length}
-use Rattle.digits.proofs.SliceLaws.{tail-less, to-end-shorter}
+use Rattle.notation.proofs.SliceLaws.{tail-less, to-end-shorter}
 use Rattle.output.proofs.PlacingLaws.{puts-length}
 use Rattle.range_lines.proofs.LinesLaws.{used-le, used-some}
 use Rattle.range_main.proofs.feed.Statement.{statement}

@@ -4,8 +4,8 @@ use native.Mathlib.Omega.{arith}
 use borrow.Author.Needs.{needs}
 use lib.ListN.{length}
 use lib.Seq.{length-take-le}
+use Rattle.notation.proofs.SliceLaws.{tail-less}
 use Rattle.address.specs.Answers.{blockAnswer}
-use Rattle.digits.proofs.SliceLaws.{tail-less}
 use Rattle.range_text.proofs.RangeTextLaws.{Walk, walk-start, walk-on, lines-none, lines-refused}
 use Rattle.range_text.proofs.put_lines.Statement.{statement}
 use Rattle.range_text.proofs.put_lines.Tie as tie

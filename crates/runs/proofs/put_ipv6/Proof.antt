@@ -5,10 +5,10 @@ use borrow.Author.Needs.{needs}
 use borrow.Author.Tests.{not-true, not-false, ltb-true, ltb-false}
 use lib.Dec.{leb}
 use lib.ListN.{length}
+use Rattle.wide.specs.Value.{value}
 use Rattle.cover.specs.Blocks.{rangeBlocks}
 use Rattle.output.proofs.PlacingLaws.{all-put, puts-length}
 use Rattle.records.specs.Records.{recordsOf}
-use Rattle.wide.specs.Value.{value}
 use Rattle.runs.proofs.RoomLaws.{none-put, room-short, room-whole}
 use Rattle.runs.proofs.put_ipv6.Statement.{statement}
 use Rattle.runs.proofs.put_ipv6.Tie as tie

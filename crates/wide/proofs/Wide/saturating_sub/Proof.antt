@@ -1,5 +1,5 @@
 -- `wide::Wide::saturating_sub` meets its contract. Assumes nothing.
-use Prim.Native.Nat.{_-_, _<_, _^_}
+use Prim.Native.Nat.{_<_, _^_}
 use native.Mathlib.Nat.{le-of-lt}
 use native.Mathlib.Omega.{arith}
 use borrow.Author.Needs.{needs}

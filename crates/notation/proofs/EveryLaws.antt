@@ -4,14 +4,10 @@ use mathlib.Core.List.{List, [], _∷_, map}
 use mathlib.Core.Option.{Option, some, none}
 use Prim.Native.Nat.{ℕ, suc, _<_}
 use native.Mathlib.Omega.{arith}
-use lib.Dec.{lit≤}
 use lib.ListN.{length}
-use Rattle.octets.specs.BigEndian.{AllBelow}
-use Rattle.digits.specs.Numerals.{digitOf, partOf, decimal}
-use Rattle.digits.proofs.NumeralLaws.{no-digit, part-digits, decimal-part}
-use Rattle.digits.proofs.PieceLaws.{part-most}
-use Rattle.digits.proofs.SeparatedLaws.{Lacks, Each}
-use Rattle.ipv4_text.specs.Dotted.{joined, single, every}
+use Rattle.notation.specs.BigEndian.{AllBelow}
+use Rattle.notation.specs.Pieces.{Each}
+use Rattle.notation.specs.Options.{joined, single, every}
 
 -- f reads the pieces as the numbers
 pub data Reads (f : List ℕ → Option ℕ) : List (List ℕ) → List ℕ → Type 0 where
@@ -56,15 +52,3 @@ pub every-written : (m : ℕ) (f : List ℕ → Option ℕ) (g : ℕ → List �
 unfolding every
 every-written m f g h [] l = refl
 every-written m f g h (x ∷ xs) l = rw (h x (l .0), every-written m f g h xs (l .1))
-
-pub every-decimal : (xs : List ℕ) → AllBelow 256 xs → every (partOf 255) (map decimal xs) ≡ some xs
-every-decimal = every-written 256 (partOf 255) decimal λ x h. decimal-part 255 x (omega arith) (omega arith)
-
--- ---- parts
-
-pub part-lacks : (p : List ℕ) (x : ℕ) → partOf 255 p ≡ some x → Lacks 46 p
-unfolding digitOf
-part-lacks p x e = no-digit 10 46 p (lit≤ tt) refl (part-digits 255 p x e .all)
-
-pub part-octet : (p : List ℕ) (x : ℕ) → partOf 255 p ≡ some x → x < 256
-part-octet p x e = omega (arith, part-most 255 p x e)
