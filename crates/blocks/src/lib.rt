@@ -10,12 +10,12 @@ use address::Check;
 use address::Reading;
 use address::Refusal;
 use address::Writing;
+use digits::parts::whole_part;
 use digits::read::Leading;
 use digits::read::find;
 use normal::put_address;
 use output::put;
 use output::put_decimal;
-use parts::whole_part;
 use store::store;
 use text::read_address;
 

@@ -30,8 +30,8 @@ use Rattle.text.specs.Strict.{strictOf, strictAnswer}
 use Rattle.normal.specs.Normal.{normalGroups, normalText}
 use Rattle.normal.proofs.Claims as normal
 use Rattle.loose.specs.Loose.{loosePart, looseOf, looseAnswer}
-use Rattle.given.specs.GivenBytes.{givenOf, zeroFilled}
-use Rattle.network_text.specs.NetworkText.{cleared, networkText, writeReasons}
+use Rattle.network.specs.GivenBytes.{givenOf, zeroFilled}
+use Rattle.network.specs.NetworkText.{cleared, networkText, writeReasons}
 use Rattle.network.specs.declared.NetworkReading.{NetworkReading}
 use Rattle.network.specs.Network.{Network, networkOf, networkAnswer, networkLeaves, networkReadingAnswer}
 use Rattle.network.proofs.Claims as network

@@ -17,7 +17,7 @@ use Rattle.digits.proofs.NumeralLaws.{no-digit, part-digits}
 use Rattle.digits.proofs.MarkLaws.{not-marked}
 use Rattle.ipv4_text.specs.Dotted.{partsOf}
 use Rattle.ipv4_text.proofs.DottedLaws.{parts-are, parts-spelling}
-use Rattle.given.specs.GivenBytes.{halfBytes, hexBytes, givenOf}
+use Rattle.network.specs.GivenBytes.{halfBytes, hexBytes, givenOf}
 use Rattle.grammar.specs.NetworkForm.{half-bytes, no-digits, odd-digit, two-digits, decimal-parts, bytes-given, after-0x, after-0X, or-decimal, a·b·c·d, a·b·c, a·b, only-a}
 use Rattle.grammar.proofs.NumberLaws.{octet-reads, reads-octet, octet-spelling}
 use Rattle.grammar.proofs.DottedLaws.{separated-split}

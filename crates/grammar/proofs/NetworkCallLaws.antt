@@ -9,8 +9,8 @@ use Rattle.address.specs.declared.Refusal.the-variants.{TextTooLong, Malformed,
 use Rattle.address.specs.Answers.{Answer, gives}
 use Rattle.address.proofs.Claims.{gives-refuses}
 use Rattle.ipv4_text.proofs.DottedLaws.{Octets}
-use Rattle.given.proofs.GivenLaws.{given-octets}
 use Rattle.network.specs.Network.{Network}
+use Rattle.network.proofs.GivenLaws.{given-octets}
 use Rattle.grammar.specs.NetworkForm.{bytes-given, from-first-byte, 240-up, 224-up, 192-up, 128-up, else-8, inferred-size, becomes, below-8, no-less, eighths, bytes-written, as-given, zeros-added, NetworkForm, with-size, without, NetworkCall, too-long, no-network, too-large, no-room, read-network}
 use Rattle.grammar.proofs.GivenLaws.{given-reads}
 use Rattle.grammar.proofs.NetworkFormLaws.{first-is, network-reads}

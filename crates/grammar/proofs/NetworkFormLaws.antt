@@ -15,10 +15,10 @@ use Rattle.notation.proofs.OptionLaws.{impossible, nothing-there}
 use Rattle.address.specs.declared.Refusal.the-variants.{Malformed, LengthTooLarge, NoRoom}
 use Rattle.address.specs.Answers.{Answer, answer, gives, refuses, refusal, writeRefusal, writeLeaves}
 use Rattle.digits.specs.Numerals.{digitOf, partOf}
-use Rattle.given.specs.GivenBytes.{givenOf, zeroFilled, beforeSlash}
-use Rattle.given.proofs.GivenLaws.{given-octets}
-use Rattle.network_text.specs.NetworkText.{sizeBytes}
+use Rattle.network.specs.GivenBytes.{givenOf, zeroFilled, beforeSlash}
+use Rattle.network.specs.NetworkText.{sizeBytes}
 use Rattle.network.specs.Network.{Network, classSize, inferredSize, completed, sized, networkOf, networkAnswer, networkLeaves}
+use Rattle.network.proofs.GivenLaws.{given-octets}
 use Rattle.network.proofs.NetworkLaws.{answer-long, answer-stored}
 use Rattle.grammar.specs.NetworkForm.{bytes-given, from-first-byte, 240-up, 224-up, 192-up, 128-up, else-8, inferred-size, becomes, below-8, no-less, rounded-up, eighths, bytes-written, as-given, zeros-added, NetworkForm, with-size, without, NetworkCall, too-long, no-network, too-large, no-room, read-network}
 use Rattle.grammar.proofs.LengthLaws.{network-most}

@@ -22,8 +22,8 @@ use Rattle.digits.specs.Numerals.{decimal}
 use Rattle.digits.proofs.NumeralLaws.{decimal-part}
 use Rattle.ipv4_text.proofs.PartLaws.{every-decimal}
 use Rattle.ipv4_text.proofs.DottedLaws.{parts-spelling}
-use Rattle.network_text.specs.NetworkText.{sizeBytes, cleared, networkText, writeReasons}
-use Rattle.network_text.proofs.TextLaws.{cleared-high, write-6, write-large, write-sized}
+use Rattle.network.specs.NetworkText.{sizeBytes, cleared, networkText, writeReasons}
+use Rattle.network.proofs.TextLaws.{cleared-high, write-6, write-large, write-sized}
 use Rattle.network.proofs.Claims.{cleared-bits, kept-bits, size-zero}
 use Rattle.grammar.specs.NetworkForm.{decimal-parts, a·b·c·d, a·b·c, a·b, only-a, size-part, rounded-up, eighths, bits-cleared, clears, WrittenNetwork, first-bytes, size-0, NetworkWriting, wrong-family, size-above, text-above, written-network}
 use Rattle.grammar.proofs.NumberLaws.{reads-size, size-spelling}

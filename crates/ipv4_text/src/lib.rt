@@ -2,10 +2,10 @@
 ghost use mathlib.Core.Path.{_≡_};
 ghost use Rattle.output.specs.Placing.{Puts};
 ghost use Rattle.ipv4_text.specs.Dotted.{asParts, partsOf, asDotted, dottedOf, dottedText};
+use digits::parts::leading_part;
 use digits::read::Leading;
 use output::put;
 use output::put_decimal;
-use parts::leading_part;
 
 // One to four parts of a text: the number that they write as octets, and how many they are.
 pub enum Parts {

@@ -8,8 +8,8 @@ ghost use lib.ListN.{length, take, getD};
 ghost use Rattle.notation.specs.Options.{joined};
 ghost use Rattle.ipv6_text.specs.Inner.{HoldsGroups, ReadsSide, LaidOut, colonFirst, gapFirst, expanded};
 ghost use Rattle.ipv6_text.specs.EightGroups.{tailOf, sideOf, filled, eight, eightOf, asEight};
+use digits::groups::leading_group;
 use digits::read::Leading;
-use hex_group::leading_group;
 use ipv4_text::Dotted;
 use ipv4_text::read_dotted;
 

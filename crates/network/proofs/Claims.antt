@@ -17,12 +17,12 @@ use Rattle.address.proofs.AnswerLaws.{read-held, good-no-reason}
 use Rattle.address.proofs.Claims.{Cases, given, not-given, one-answer}
 use Rattle.octets.specs.Octets.{octets}
 use Rattle.digits.specs.Numerals.{numeral}
-use Rattle.given.specs.GivenBytes.{zeroFilled}
-use Rattle.network_text.specs.NetworkText.{sizeBytes, cleared, networkText, writeReasons}
-use Rattle.network_text.proofs.TextLaws.{cleared-high, text-most, no-reason}
+use Rattle.network.specs.GivenBytes.{zeroFilled}
+use Rattle.network.specs.NetworkText.{sizeBytes, cleared, networkText, writeReasons}
 use Rattle.network.specs.Network.{Network, networkOf, networkAnswer, networkLeaves, networkReadingAnswer}
 use Rattle.network.specs.declared.NetworkReading.{NetworkReading}
 use Rattle.network.specs.declared.NetworkReading.the-variants.{Read, Refused}
+use Rattle.network.proofs.TextLaws.{cleared-high, text-most, no-reason}
 use Rattle.network.proofs.ReadBackLaws.{written, written-length, written-read, written-filled, written-answer}
 
 -- ---- what is written

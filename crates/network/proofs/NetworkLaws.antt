@@ -28,11 +28,11 @@ use Rattle.digits.specs.declared.read.Leading.the-variants.{Number, Nothing}
 use Rattle.digits.specs.Numerals.{partOf, asLeading}
 use Rattle.digits.proofs.FirstPieceLaws.{as-number, as-nothing}
 use Rattle.ipv4_text.proofs.DottedLaws.{Octets}
-use Rattle.given.specs.declared.Given.the-variants.{Bytes, NotGiven}
-use Rattle.given.specs.GivenBytes.{givenOf, zeroFilled, beforeSlash, asGiven}
-use Rattle.given.proofs.GivenLaws.{given-octets, bytes-says, not-given-says}
-use Rattle.network_text.specs.NetworkText.{sizeBytes}
+use Rattle.network.specs.declared.given.Given.the-variants.{Bytes, NotGiven}
+use Rattle.network.specs.GivenBytes.{givenOf, zeroFilled, beforeSlash, asGiven}
+use Rattle.network.specs.NetworkText.{sizeBytes}
 use Rattle.network.specs.Network.{Network, classSize, widened, inferredSize, completed, sized, networkOf, networkAnswer, networkLeaves}
+use Rattle.network.proofs.GivenLaws.{given-octets, bytes-says, not-given-says}
 
 -- ---- zeros behind bytes
 

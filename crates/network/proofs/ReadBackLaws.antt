@@ -22,10 +22,10 @@ use Rattle.digits.proofs.MarkLaws.{not-marked}
 use Rattle.digits.proofs.SeparatedNumeralLaws.{numerals-lack}
 use Rattle.ipv4_text.proofs.DottedLaws.{parts-spelling}
 use Rattle.ipv4_text.proofs.PartLaws.{every-decimal}
-use Rattle.given.specs.GivenBytes.{givenOf, zeroFilled}
-use Rattle.network_text.specs.NetworkText.{sizeBytes, cleared, networkText}
-use Rattle.network_text.proofs.TextLaws.{cleared-high, text-most}
+use Rattle.network.specs.GivenBytes.{givenOf, zeroFilled}
+use Rattle.network.specs.NetworkText.{sizeBytes, cleared, networkText}
 use Rattle.network.specs.Network.{Network, completed, networkOf, networkAnswer, networkLeaves}
+use Rattle.network.proofs.TextLaws.{cleared-high, text-most}
 use Rattle.network.proofs.NetworkLaws.{answer-stored}
 
 -- ---- a text with a slash

@@ -8,8 +8,8 @@ use lib.ListN.{length, drop, getD}
 use Rattle.notation.specs.Pieces.{contains, indexOf}
 use Rattle.address.specs.Answers.{Answer, answer, gives, refuses, missing, refusal, writeRefusal, writeLeaves}
 use Rattle.digits.specs.Numerals.{partOf}
-use Rattle.given.specs.GivenBytes.{givenOf, zeroFilled, beforeSlash}
-use Rattle.network_text.specs.NetworkText.{sizeBytes}
+use Rattle.network.specs.GivenBytes.{givenOf, zeroFilled, beforeSlash}
+use Rattle.network.specs.NetworkText.{sizeBytes}
 use Rattle.network.specs.declared.NetworkReading.{NetworkReading}
 use Rattle.network.specs.declared.NetworkReading.the-variants.{Read, Refused}
 

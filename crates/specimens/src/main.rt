@@ -11,7 +11,7 @@ use libc::STDOUT_FILENO;
 use loose::read_loose;
 use network::NetworkReading;
 use network::read_network;
-use network_text::write_network;
+use network::write_network;
 use normal::write_address;
 use octets::read_octets;
 use ranges::RangeWriting;

@@ -4,8 +4,8 @@ use Prim.Native.Nat.{_≤_}
 use borrow.Author.Needs.{needs}
 use denote.Ref.{now}
 use Rattle.notation.specs.Pieces.{indexOf}
-use Rattle.given.specs.declared.Given.the-variants.{Bytes}
-use Rattle.given.specs.GivenBytes.{givenOf, beforeSlash, asGiven}
+use Rattle.network.specs.declared.given.Given.the-variants.{Bytes}
+use Rattle.network.specs.GivenBytes.{givenOf, beforeSlash, asGiven}
 use Rattle.network.proofs.NetworkLaws.{given-count, inferred-most, answer-long, none-given, slash-at, no-size, inferred-stored, sized-large, sized-stored}
 use Rattle.network.proofs.read_network.Statement.{statement}
 use Rattle.network.proofs.read_network.Tie as tie

@@ -8,7 +8,7 @@ use lib.Seq.{length-take-le}
 use Rattle.notation.specs.BigEndian.{digitsOf}
 use Rattle.notation.proofs.DigitLaws.{digits-length}
 use Rattle.address.specs.Answers.{writingAnswer}
-use Rattle.network_text.specs.NetworkText.{sizeBytes}
+use Rattle.network.specs.NetworkText.{sizeBytes}
 use Rattle.network.proofs.NetworkLaws.{octets-stored, octets-front, store-wrote, store-refused}
 use Rattle.network.proofs.store_network.Statement.{statement}
 use Rattle.network.proofs.store_network.Tie as tie

@@ -1,5 +1,5 @@
 -- `nibharrow::nibharrow_join` meets its contract. Assumes nothing.
-use Rattle.interface.proofs.InterfaceLaws.{into-same}
+use Rattle.nibharrow.proofs.InterfaceLaws.{into-same}
 use borrow.Author.Needs.{needs}
 use Rattle.nibharrow.proofs.nibharrow_join.Statement.{statement}
 use Rattle.nibharrow.proofs.nibharrow_join.Tie as tie

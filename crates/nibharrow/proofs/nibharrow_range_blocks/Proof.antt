@@ -1,7 +1,7 @@
 -- `nibharrow::nibharrow_range_blocks` meets its contract. Assumes nothing.
 use mathlib.Core.Path.{refl, _∙_}
-use Rattle.interface.specs.Interface.{rangeInto}
-use Rattle.interface.proofs.InterfaceLaws.{both, to-same, reading-given, reading-refused}
+use Rattle.nibharrow.specs.Interface.{rangeInto}
+use Rattle.nibharrow.proofs.InterfaceLaws.{both, to-same, reading-given, reading-refused}
 use borrow.Author.Needs.{needs}
 use Rattle.nibharrow.proofs.nibharrow_range_blocks.Statement.{statement}
 use Rattle.nibharrow.proofs.nibharrow_range_blocks.Tie as tie

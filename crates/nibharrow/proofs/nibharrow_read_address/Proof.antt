@@ -1,6 +1,6 @@
 -- `nibharrow::nibharrow_read_address` meets its contract. Assumes nothing.
 use mathlib.Core.Path.{_∙_}
-use Rattle.interface.proofs.InterfaceLaws.{into-same, family-cut}
+use Rattle.nibharrow.proofs.InterfaceLaws.{into-same, family-cut}
 use borrow.Author.Needs.{needs}
 use Rattle.nibharrow.proofs.nibharrow_read_address.Statement.{statement}
 use Rattle.nibharrow.proofs.nibharrow_read_address.Tie as tie

@@ -2,8 +2,8 @@
 use mathlib.Core.Path.{refl, sym, ap, _∙_}
 use Rattle.address.specs.Answers.{noBlock, blockAnswer}
 use Rattle.c_answers.specs.CAnswers.{besides}
-use Rattle.interface.specs.Interface.{blockInto}
-use Rattle.interface.proofs.InterfaceLaws.{both, when-given, when-refused, refused-besides}
+use Rattle.nibharrow.specs.Interface.{blockInto}
+use Rattle.nibharrow.proofs.InterfaceLaws.{both, when-given, when-refused, refused-besides}
 use borrow.Author.Needs.{needs}
 use Rattle.nibharrow.proofs.nibharrow_read_block.Statement.{statement}
 use Rattle.nibharrow.proofs.nibharrow_read_block.Tie as tie

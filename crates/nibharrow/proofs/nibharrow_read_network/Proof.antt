@@ -1,7 +1,7 @@
 -- `nibharrow::nibharrow_read_network` meets its contract. Assumes nothing.
 use mathlib.Core.Path.{_∙_}
-use Rattle.interface.specs.Interface.{networkInto}
-use Rattle.interface.proofs.InterfaceLaws.{both}
+use Rattle.nibharrow.specs.Interface.{networkInto}
+use Rattle.nibharrow.proofs.InterfaceLaws.{both}
 use borrow.Author.Needs.{needs}
 use Rattle.nibharrow.proofs.nibharrow_read_network.Statement.{statement}
 use Rattle.nibharrow.proofs.nibharrow_read_network.Tie as tie

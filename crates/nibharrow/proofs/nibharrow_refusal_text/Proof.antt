@@ -1,6 +1,6 @@
 -- `nibharrow::nibharrow_refusal_text` meets its contract. Assumes nothing.
-use Rattle.interface.specs.Interface.{wordsInto}
-use Rattle.interface.proofs.InterfaceLaws.{wrote}
+use Rattle.nibharrow.specs.Interface.{wordsInto}
+use Rattle.nibharrow.proofs.InterfaceLaws.{wrote}
 use borrow.Author.Needs.{needs}
 use Rattle.nibharrow.proofs.nibharrow_refusal_text.Statement.{statement}
 use Rattle.nibharrow.proofs.nibharrow_refusal_text.Tie as tie

@@ -1,7 +1,7 @@
 -- `nibharrow::nibharrow_split` meets its contract. Assumes nothing.
 use mathlib.Core.Path.{_∙_}
-use Rattle.interface.specs.Interface.{octetsSplit}
-use Rattle.interface.proofs.InterfaceLaws.{reading-given, reading-refused}
+use Rattle.nibharrow.specs.Interface.{octetsSplit}
+use Rattle.nibharrow.proofs.InterfaceLaws.{reading-given, reading-refused}
 use borrow.Author.Needs.{needs}
 use Rattle.nibharrow.proofs.nibharrow_split.Statement.{statement}
 use Rattle.nibharrow.proofs.nibharrow_split.Tie as tie

@@ -1,7 +1,7 @@
 -- `nibharrow::nibharrow_write_address` meets its contract. Assumes nothing.
 use mathlib.Core.Path.{refl, _∙_}
-use Rattle.interface.specs.Interface.{addressWritten}
-use Rattle.interface.proofs.InterfaceLaws.{both, wrote, reading-given, reading-refused}
+use Rattle.nibharrow.specs.Interface.{addressWritten}
+use Rattle.nibharrow.proofs.InterfaceLaws.{both, wrote, reading-given, reading-refused}
 use borrow.Author.Needs.{needs}
 use Rattle.nibharrow.proofs.nibharrow_write_address.Statement.{statement}
 use Rattle.nibharrow.proofs.nibharrow_write_address.Tie as tie

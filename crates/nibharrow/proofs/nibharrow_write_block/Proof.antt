@@ -1,7 +1,7 @@
 -- `nibharrow::nibharrow_write_block` meets its contract. Assumes nothing.
 use mathlib.Core.Path.{refl, _∙_}
-use Rattle.interface.specs.Interface.{blockWritten}
-use Rattle.interface.proofs.InterfaceLaws.{both, wrote, reading-given, reading-refused, length-cut}
+use Rattle.nibharrow.specs.Interface.{blockWritten}
+use Rattle.nibharrow.proofs.InterfaceLaws.{both, wrote, reading-given, reading-refused, length-cut}
 use borrow.Author.Needs.{needs}
 use Rattle.nibharrow.proofs.nibharrow_write_block.Statement.{statement}
 use Rattle.nibharrow.proofs.nibharrow_write_block.Tie as tie

@@ -1,7 +1,7 @@
 -- `nibharrow::nibharrow_write_network` meets its contract. Assumes nothing.
 use mathlib.Core.Path.{refl, _∙_}
-use Rattle.interface.specs.Interface.{networkWritten}
-use Rattle.interface.proofs.InterfaceLaws.{both, wrote, reading-given, reading-refused, size-cut}
+use Rattle.nibharrow.specs.Interface.{networkWritten}
+use Rattle.nibharrow.proofs.InterfaceLaws.{both, wrote, reading-given, reading-refused, size-cut}
 use borrow.Author.Needs.{needs}
 use Rattle.nibharrow.proofs.nibharrow_write_network.Statement.{statement}
 use Rattle.nibharrow.proofs.nibharrow_write_network.Tie as tie

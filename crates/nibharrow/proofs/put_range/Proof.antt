@@ -1,7 +1,7 @@
 -- `nibharrow::put_range` meets its contract. Assumes nothing.
 use mathlib.Core.Path.{refl, _∙_}
-use Rattle.interface.specs.Interface.{rangeTo}
-use Rattle.interface.proofs.InterfaceLaws.{both, reading-given, reading-refused}
+use Rattle.nibharrow.specs.Interface.{rangeTo}
+use Rattle.nibharrow.proofs.InterfaceLaws.{both, reading-given, reading-refused}
 use borrow.Author.Needs.{needs}
 use Rattle.nibharrow.proofs.put_range.Statement.{statement}
 use Rattle.nibharrow.proofs.put_range.Tie as tie

@@ -1,7 +1,7 @@
 -- `nibharrow::put_reading` meets its contract. Assumes nothing.
 use mathlib.Core.Path.{refl, _∙_}
-use Rattle.interface.specs.Interface.{addressInto}
-use Rattle.interface.proofs.InterfaceLaws.{both, wrote, reading-given, reading-refused}
+use Rattle.nibharrow.specs.Interface.{addressInto}
+use Rattle.nibharrow.proofs.InterfaceLaws.{both, wrote, reading-given, reading-refused}
 use borrow.Author.Needs.{needs}
 use Rattle.nibharrow.proofs.put_reading.Statement.{statement}
 use Rattle.nibharrow.proofs.put_reading.Tie as tie

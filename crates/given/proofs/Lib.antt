@@ -1,2 +1,0 @@
--- GivenLaws: the bytes that a text gives, as the code reads them.
-pub mod GivenLaws

@@ -1,2 +1,0 @@
--- GivenBytes: the bytes that a network text gives.
-pub mod GivenBytes

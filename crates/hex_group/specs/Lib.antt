@@ -1,2 +1,0 @@
--- Bytes: four bytes that are looked at together.
-pub mod Bytes

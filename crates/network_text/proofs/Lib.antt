@@ -1,2 +1,0 @@
--- TextLaws: the text as the code puts it, and what writing answers.
-pub mod TextLaws

@@ -1,2 +1,0 @@
--- NetworkText: the network form, written.
-pub mod NetworkText

@@ -1,0 +1,106 @@
+-- Outcomes of the C interface, from what the calls below it answer. Assumes nothing.
+use mathlib.Core.Path.{_≡_, refl, sym, ap, _∙_}
+use mathlib.Core.Bool.{Bool, true, false}
+use mathlib.Core.List.{List, [], _∷_}
+use Prim.Native.Nat.{ℕ, _<_, min}
+use native.Mathlib.Decide.{decLe}
+use native.Mathlib.Omega.{arith}
+use borrow.Author.Tests.{lt-ltb, ne-eqb}
+use lib.Dec.{eqb}
+use Rattle.address.specs.declared.Address.{Address}
+use Rattle.address.specs.declared.Block.{Block}
+use Rattle.address.specs.Addresses.{family, width, number}
+use Rattle.address.specs.declared.Reading.{Reading}
+use Rattle.address.specs.declared.Reading.the-variants.{Read, Refused}
+use Rattle.address.specs.declared.Refusal.{Refusal}
+use Rattle.address.specs.Answers.{Answer, gives, refuses, refusalNumber, noAddress, readingAnswer, writeAnswer, writeLeaves}
+use Rattle.address.proofs.AnswerLaws.{nonzero}
+use Rattle.text.specs.Strict.{knownFamily, strictAnswer}
+use Rattle.text.proofs.StrictLaws.{strict-unknown}
+use Rattle.network.specs.NetworkText.{networkText}
+use Rattle.blocks.specs.BlockText.{blockText}
+use Rattle.blocks.proofs.BlockTextLaws.{width-most}
+use Rattle.c_answers.specs.CAnswers.{besides}
+use Rattle.nibharrow.specs.Interface.{Outcome, outcome, whenGiven, refusedBy, andThen, addressInto, rangeTo, writes, networkWrites, blockWrites}
+
+-- equal answers and equal buffers
+pub both : {A : Type 0} {a b : Answer A} {l m : List ℕ} → a ≡ b → l ≡ m → outcome a l ≡ outcome b m
+both p q = λ i. record { answers = p i; leaves = q i }
+
+-- what a writer answers and leaves
+pub wrote : {r s : Answer ℕ} {new : List ℕ} (reasons : List (ℕ × Bool)) (bytes old : List ℕ)
+    → r ≡ s → (s ≡ writeAnswer reasons bytes old) × (new ≡ writeLeaves reasons bytes old) → outcome r new ≡ writes reasons bytes old
+wrote reasons bytes old e w = both (e ∙ w .0) (w .1)
+
+module _ {A B : Type 0} (refused : ℕ → B) (f : A → B) (x : Answer A) where
+  -- a value goes on
+  pub when-given : (a : A) → gives a ≡ x → f a ≡ whenGiven refused x f
+  unfolding whenGiven
+  when-given a h = ap (λ y. whenGiven refused y f) h
+
+  -- and a refusal stands
+  pub when-refused : (z : A) (e : Refusal) → refuses z e ≡ x → refused (refusalNumber e) ≡ whenGiven refused x f
+  unfolding whenGiven
+  when-refused z e h = rw (← h, nonzero e)
+
+-- with its own number, and the buffer as it was
+pub refused-on : {A B : Type 0} (zeros : B) (old : List ℕ) (f : A → Outcome B) (x : Answer A) (z : A) (e : Refusal) → x ≡ refuses z e
+    → andThen zeros old x f ≡ outcome (refuses zeros e) old
+refused-on zeros old f x z e h = sym (when-refused (λ n. outcome (refusedBy zeros n) old) f x z e (sym h))
+
+-- what a match tells of a reading, where the reading answers x
+module _ {B : Type 0} (refused : ℕ → B) (f : Address → B) (x : Answer Address) (r : Reading) (h : readingAnswer r ≡ x) where
+  pub reading-given : (a : Address) → r ≡ Read a → f a ≡ whenGiven refused x f
+  reading-given a e = when-given refused f x a (ap readingAnswer (sym e) ∙ h)
+
+  pub reading-refused : (e : Refusal) → r ≡ Refused e → refused (refusalNumber e) ≡ whenGiven refused x f
+  reading-refused e k = when-refused refused f x noAddress e (ap readingAnswer (sym k) ∙ h)
+
+-- equal answers of a reader go the same way
+pub to-same : (first : Address) (x y : Answer Address) (old : List ℕ) (o : Outcome (ℕ × ℕ)) → o ≡ rangeTo first x old → x ≡ y → o ≡ rangeTo first y old
+to-same first x y old o p q = p ∙ ap (λ a. rangeTo first a old) q
+
+pub into-same : (x y : Answer Address) (old : List ℕ) (o : Outcome ℕ) → o ≡ addressInto x old → x ≡ y → o ≡ addressInto y old
+into-same x y old o p q = p ∙ ap (λ a. addressInto a old) q
+
+-- ---- a number cut to a byte
+
+-- what a function gives of a number that is cut to 255, where it gives the same of all that are larger
+cut : {R : Type 0} (f : ℕ → R) (n m : ℕ) → m ≡ min n 255 → (255 < n → f 255 ≡ f n) → f m ≡ f n
+cut f n m e large = elim (decLe n 255) [ yes h ↦ ap f (omega arith) | no h ↦ ap f (omega arith) ∙ large (omega arith) ]
+
+-- a family above 255 is unknown
+pub family-cut : (family n : ℕ) (t : List ℕ) → n ≡ min family 255 → strictAnswer n t ≡ strictAnswer family t
+family-cut family n t e = cut (λ m. strictAnswer m t) family n e (λ h. sym (strict-unknown 255 t refl) ∙ strict-unknown family t (unknown h))
+  where
+    unknown : 255 < family → knownFamily family ≡ false
+    unknown h = rw (ne-eqb family 4 (omega arith), ne-eqb family 6 (omega arith), ne-eqb family 0 (omega arith))
+
+-- a refusal by 4 is the same whatever would be written
+large-size : (p : Bool) (b c old : List ℕ) → writes ((9, p) ∷ (4, true) ∷ []) b old ≡ writes ((9, p) ∷ (4, true) ∷ []) c old
+unfolding writeAnswer writeLeaves
+large-size true b c old = refl
+large-size false b c old = refl
+
+large-length : (p q : Bool) (b c old : List ℕ) → writes ((4, true) ∷ (5, p) ∷ []) b old ≡ writes ((4, true) ∷ (5, q) ∷ []) c old
+unfolding writeAnswer writeLeaves
+large-length p q b c old = refl
+
+-- so is a size above 255
+pub size-cut : (a : Address) (size n : ℕ) (old : List ℕ) → n ≡ min size 255 → networkWrites a n old ≡ networkWrites a size old
+size-cut a size n old e =
+    cut (λ m. networkWrites a m old) size n e
+    (λ h. rw (lt-ltb 32 size (omega arith)) (large-size (eqb (family a) 6) (networkText (number a) 255) (networkText (number a) size) old))
+
+-- and a length
+pub length-cut : (a : Address) (length n : ℕ) (old : List ℕ) → n ≡ min length 255 → blockWrites a n old ≡ blockWrites a length old
+length-cut a length n old e =
+    cut (λ m. blockWrites a m old) length n e
+    (λ h. rw (lt-ltb (width a) 255 (omega (arith, width-most a)), lt-ltb (width a) length (omega (arith, width-most a))) (large-length _ _ (blockText (blockOf 255)) (blockText (blockOf length)) old))
+  where
+    blockOf : ℕ → Block
+    blockOf m = record { address = a; length = m }
+
+-- a writer's refusal with a number beside it
+pub refused-besides : (n : ℕ) (e : Refusal) → besides n (refuses 0 e) ≡ refuses (0, 0) e
+refused-besides n e = rw (nonzero e)

@@ -1,2 +1,0 @@
--- PartLaws: decimal parts at the start of a text.
-pub mod PartLaws

@@ -1,2 +1,0 @@
--- Decimals: the decimal digit at the start of a text.
-pub mod Decimals

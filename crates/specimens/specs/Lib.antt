@@ -1,0 +1,2 @@
+-- Specimens: the table of the specimens that are proved.
+pub mod Specimens
