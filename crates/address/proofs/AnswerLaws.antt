@@ -4,26 +4,15 @@ use mathlib.Core.Logic.{_↔_}
 use mathlib.Core.Bool.{Bool, true, false, cond, false≢true}
 use mathlib.Core.List.{List, [], _∷_, _++_}
 use Prim.Native.Nat.{ℕ, _≤_, _<_}
-use native.Mathlib.Decide.{ℕ-discrete}
+use native.Mathlib.Decide.{decLt, ℕ-discrete}
 use native.Mathlib.Omega.{arith}
-use borrow.Author.Tests.{lt-ltb, le-ltb, ltb-true, ltb-false, eqb-false, ne-eqb}
+use borrow.Author.Tests.{lt-ltb, le-ltb, eqb-false, ne-eqb}
 use lib.Dec.{eqb, lit<}
 use lib.ListN.{length, take, drop, length-append, length-drop}
 use lib.Seq.{take-at, drop-at}
 use Rattle.address.specs.declared.Refusal.{Refusal}
 use Rattle.address.specs.declared.Refusal.the-variants.{TextTooLong, Malformed, NoRoom, LengthTooLarge, BitsBeyondLength, NoClass, HostTooLarge, FirstAboveLast, WrongFamily}
-use Rattle.address.specs.Answers.{Answer, refusalNumber, holds, refusal, answer, gives, refuses, writeRefusal, writeAnswer, writeLeaves}
-
-module _ (bytes old : List ℕ) (n : ℕ) (l : length bytes ≡ n) where
-  -- where the bytes do not fit
-  pub write-short : length old < n → (refuses 0 NoRoom ≡ writeAnswer [] bytes old) × (old ≡ writeLeaves [] bytes old)
-  unfolding writeAnswer writeLeaves
-  write-short h = (rw (l, lt-ltb (length old) n h), rw (l, lt-ltb (length old) n h))
-
-  -- and where they do
-  pub write-fits : n ≤ length old → (new : List ℕ) → new ≡ bytes ++ drop n old → (gives n ≡ writeAnswer [] bytes old) × (new ≡ writeLeaves [] bytes old)
-  unfolding writeAnswer writeLeaves
-  write-fits h new e = (rw (l, le-ltb (length old) n h), rw (e, l, le-ltb (length old) n h))
+use Rattle.address.specs.Answers.{Answer, refusalNumber, holds, answer, gives, refuses, writeRefusal, writeAnswer, writeLeaves}
 
 -- ---- the paper's answer, from a refusal's number
 
@@ -48,129 +37,133 @@ module _ {A : Type 0} (zeros fields : A) (n : ℕ) where
   pub answer-refuses : (e : Refusal) → refusalNumber e ≡ n → refuses zeros e ≡ answer zeros n fields
   answer-refuses e h = rw (← h, nonzero e)
 
--- ---- the refusals of a writer: 3 stands last
+-- ---- a writer's refusal: 3 stands last
 
--- the numbers that stand before 3 in the order
-abbrev before3 : List ℕ
-before3 = 9 ∷ 1 ∷ 2 ∷ 4 ∷ 5 ∷ 6 ∷ 7 ∷ 8 ∷ []
+module _ (bytes old : List ℕ) where
+  -- where nothing else is refused, the room decides
+  pub room-enough : length bytes ≤ length old → writeRefusal 0 bytes old ≡ 0
+  room-enough h = rw (le-ltb (length old) (length bytes) h)
 
--- the number is none of the list
-lacks : ℕ → List ℕ → Bool
-lacks x [] = true
-lacks x (n ∷ ns) = cond (eqb n x) false (lacks x ns)
+  pub room-less : length old < length bytes → writeRefusal 0 bytes old ≡ 3
+  room-less h = rw (lt-ltb (length old) (length bytes) h)
 
--- the first of the numbers that holds, or m where none does
-firstOr : List ℕ → List (ℕ × Bool) → ℕ → ℕ
-firstOr [] reasons m = m
-firstOr (n ∷ ns) reasons m = cond (holds n reasons) n (firstOr ns reasons m)
+  -- another refusal stands
+  pub stands : (n : ℕ) → ¬ (n ≡ 0) → writeRefusal n bytes old ≡ n
+  stands n h = rw (ne-eqb n 0 h)
 
--- where that is none of the numbers, none of them holds
-first-or : (reasons : List (ℕ × Bool)) (m x : ℕ) (ns : List ℕ) → lacks x ns ≡ true → firstOr ns reasons m ≡ x → (m ≡ x) × ((k : ℕ) → firstOr ns reasons k ≡ k)
-unfolding lacks firstOr
-first-or reasons m x [] w e = (e, λ k. refl)
-first-or reasons m x (n ∷ ns) w e = pick (holds n reasons) (eqb n x) refl w e (first-or reasons m x ns)
-  where
-    pick : (t u : Bool) → eqb n x ≡ u → cond u false (lacks x ns) ≡ true → cond t n (firstOr ns reasons m) ≡ x
-        → (lacks x ns ≡ true → firstOr ns reasons m ≡ x → (m ≡ x) × ((k : ℕ) → firstOr ns reasons k ≡ k))
-        → (m ≡ x) × ((k : ℕ) → cond t n (firstOr ns reasons k) ≡ k)
-    pick t true q w e ih = absurd (false≢true w)
-    pick true false q w e ih = absurd (eqb-false n x q e)
-    pick false false q w e ih = ih w e
+  -- what the call is refused by tells what else is refused, and the room
+  pub no-refusal : (n : ℕ) → (writeRefusal n bytes old ≡ 0) ↔ ((n ≡ 0) × (length bytes ≤ length old))
+  no-refusal n = (to, λ p. ap (λ m. writeRefusal m bytes old) (p .0) ∙ room-enough (p .1))
+    where
+      to : writeRefusal n bytes old ≡ 0 → (n ≡ 0) × (length bytes ≤ length old)
+      to e = elim (ℕ-discrete n 0) [
+        | yes z ↦ elim (decLt (length old) (length bytes)) [
+          | yes l ↦ absurd (omega (arith, e, ap (λ m. writeRefusal m bytes old) z, room-less l))
+          | no l ↦ (z, omega (arith, l))
+        ]
+        | no m ↦ absurd (m (sym (stands n m) ∙ e))
+      ]
 
--- 3 where there is no room
-abbrev shortBy : Bool → ℕ
-shortBy t = cond t 3 0
+  pub refusal-3 : (n : ℕ) → ¬ (n ≡ 3) → (writeRefusal n bytes old ≡ 3) ↔ ((n ≡ 0) × (length old < length bytes))
+  refusal-3 n other = (to, λ p. ap (λ m. writeRefusal m bytes old) (p .0) ∙ room-less (p .1))
+    where
+      to : writeRefusal n bytes old ≡ 3 → (n ≡ 0) × (length old < length bytes)
+      to e = elim (ℕ-discrete n 0) [
+        | yes z ↦ elim (decLt (length old) (length bytes)) [
+          | yes l ↦ (z, l)
+          | no l ↦ absurd (omega (arith, e, ap (λ m. writeRefusal m bytes old) z, room-enough (omega (arith, l))))
+        ]
+        | no m ↦ absurd (other (sym (stands n m) ∙ e))
+      ]
 
-short-no : (t : Bool) → shortBy t ≡ 0 → t ≡ false
-short-no true e = absurd (omega arith)
-short-no false e = refl
+-- ---- what a writer answers and leaves
 
-short-yes : (t : Bool) → shortBy t ≡ 3 → t ≡ true
-short-yes true e = refl
-short-yes false e = absurd (omega arith)
+module _ (bytes old : List ℕ) (n : ℕ) (l : length bytes ≡ n) where
+  -- where the bytes do not fit
+  pub write-short : length old < n → (refuses 0 NoRoom ≡ writeAnswer 0 bytes old) × (old ≡ writeLeaves 0 bytes old)
+  unfolding writeAnswer writeLeaves
+  write-short h = (rw (l, lt-ltb (length old) n h), rw (l, lt-ltb (length old) n h))
 
-module _ (reasons : List (ℕ × Bool)) where
-  -- no reason before 3 holds
-  abbrev NoneBefore : Type 0
-  NoneBefore = (k : ℕ) → firstOr before3 reasons k ≡ k
+  -- and where they do
+  pub write-fits : n ≤ length old → (new : List ℕ) → new ≡ bytes ++ drop n old → (gives n ≡ writeAnswer 0 bytes old) × (new ≡ writeLeaves 0 bytes old)
+  unfolding writeAnswer writeLeaves
+  write-fits h new e = (rw (l, le-ltb (length old) n h), rw (e, l, le-ltb (length old) n h))
 
-  first-is : (t : Bool) (x : ℕ) → lacks x before3 ≡ true → refusal ((3, t) ∷ reasons) ≡ x → (shortBy t ≡ x) × NoneBefore
-  unfolding refusal firstOr
-  first-is t x w e = first-or reasons (shortBy t) x before3 w e
+module _ (n : ℕ) (bytes old : List ℕ) where
+  -- a call that another refusal's number refuses
+  pub write-other : (e : Refusal) → refusalNumber e ≡ n → (refuses 0 e ≡ writeAnswer n bytes old) × (old ≡ writeLeaves n bytes old)
+  unfolding writeAnswer writeLeaves
+  write-other e h =
+      let r : writeRefusal n bytes old ≡ refusalNumber e = stands bytes old n (omega (arith, number-pos e, h)) ∙ sym h in
+      (answer-refuses 0 (length bytes) (writeRefusal n bytes old) e (sym r), rw (r, nonzero e))
 
-  none-holds : holds 3 reasons ≡ false → NoneBefore → refusal reasons ≡ 0
-  unfolding refusal firstOr
-  none-holds h f = f (shortBy (holds 3 reasons)) ∙ ap shortBy h
+  -- and one that none does
+  pub write-none : n ≡ 0 → {r : Answer ℕ} {new : List ℕ} → (r ≡ writeAnswer 0 bytes old) × (new ≡ writeLeaves 0 bytes old)
+      → (r ≡ writeAnswer n bytes old) × (new ≡ writeLeaves n bytes old)
+  write-none z w = (w .0 ∙ ap (λ m. writeAnswer m bytes old) (sym z), w .1 ∙ ap (λ m. writeLeaves m bytes old) (sym z))
 
-  -- where no reason holds, there is none but 3
-  first-last : refusal reasons ≡ 0 → (t : Bool) → refusal ((3, t) ∷ reasons) ≡ shortBy t
-  unfolding refusal lacks firstOr
-  first-last e t = first-or reasons (shortBy (holds 3 reasons)) 0 before3 refl e .1 (shortBy t)
-
-module _ (reasons : List (ℕ × Bool)) (bytes old : List ℕ) where
-  -- where nothing is refused, the bytes fit, and where 3 is, they do not; no reason before 3 holds
-  not-short : writeRefusal reasons bytes old ≡ 0 → (length bytes ≤ length old) × NoneBefore reasons
-  unfolding lacks
-  not-short e = let f = first-is reasons _ 0 refl e in (ltb-false (length old) (length bytes) (short-no _ (f .0)), f .1)
-
-  too-short : writeRefusal reasons bytes old ≡ 3 → (length old < length bytes) × NoneBefore reasons
-  unfolding lacks
-  too-short e = let f = first-is reasons _ 3 refl e in (ltb-true (length old) (length bytes) (short-yes _ (f .0)), f .1)
-
-  -- where no reason holds, the room decides
-  room-enough : refusal reasons ≡ 0 → length bytes ≤ length old → writeRefusal reasons bytes old ≡ 0
-  room-enough e h = first-last reasons e _ ∙ ap shortBy (le-ltb (length old) (length bytes) h)
-
-  room-less : refusal reasons ≡ 0 → length old < length bytes → writeRefusal reasons bytes old ≡ 3
-  room-less e h = first-last reasons e _ ∙ ap shortBy (lt-ltb (length old) (length bytes) h)
-
-  module _ (h : holds 3 reasons ≡ false) where
-    pub no-refusal : (writeRefusal reasons bytes old ≡ 0) ↔ ((refusal reasons ≡ 0) × (length bytes ≤ length old))
-    no-refusal = (λ e. let f = not-short e in (none-holds reasons h (f .1), f .0), λ p. room-enough (p .0) (p .1))
-
-    pub refusal-3 : (writeRefusal reasons bytes old ≡ 3) ↔ ((refusal reasons ≡ 0) × (length old < length bytes))
-    refusal-3 = (λ e. let f = too-short e in (none-holds reasons h (f .1), f .0), λ p. room-less (p .0) (p .1))
-
--- ---- what the caller holds
-
-module _ (reasons : List (ℕ × Bool)) (bytes old : List ℕ) where
-  -- where no reason holds and the bytes fit, the answer is good
-  pub write-good : refusal reasons ≡ 0 → length bytes ≤ length old → writeAnswer reasons bytes old ≡ gives (length bytes)
+  -- where nothing else is refused and the bytes fit, the answer is good
+  pub write-good : n ≡ 0 → length bytes ≤ length old → writeAnswer n bytes old ≡ gives (length bytes)
   unfolding writeAnswer
-  write-good e h = rw (room-enough reasons bytes old e h)
+  write-good z h = rw (no-refusal bytes old n .1 (z, h))
 
-  -- and where it is good, no reason holds
-  pub good-no-reason : holds 3 reasons ≡ false → (n : ℕ) → writeAnswer reasons bytes old ≡ gives n → refusal reasons ≡ 0
+  -- and where it is good, nothing else is refused
+  pub good-no-reason : (k : ℕ) → writeAnswer n bytes old ≡ gives k → n ≡ 0
   unfolding writeAnswer
-  good-no-reason h n e = no-refusal reasons bytes old h .0 (ap (λ (r : Answer ℕ). r .number) e) .0
+  good-no-reason k e = no-refusal bytes old n .0 (ap (λ (r : Answer ℕ). r .number) e) .0
 
   -- the buffer that it leaves
-  pub written-is : (n : ℕ) → writeAnswer reasons bytes old ≡ gives n → (length bytes ≡ n) × (n ≤ length old) × (writeLeaves reasons bytes old ≡ bytes ++ drop n old)
+  pub written-is : (k : ℕ) → writeAnswer n bytes old ≡ gives k → (length bytes ≡ k) × (k ≤ length old) × (writeLeaves n bytes old ≡ bytes ++ drop k old)
   unfolding writeAnswer writeLeaves
-  written-is n e =
-      let none : writeRefusal reasons bytes old ≡ 0 = ap (λ (r : Answer ℕ). r .number) e in
-      let count : length bytes ≡ n = rw none at (ap (λ (r : Answer ℕ). r .fields) e) in
-      (count, omega (arith, not-short reasons bytes old none .0), rw (none, count))
+  written-is k e =
+      let none : writeRefusal n bytes old ≡ 0 = ap (λ (r : Answer ℕ). r .number) e in
+      let count : length bytes ≡ k = rw none at (ap (λ (r : Answer ℕ). r .fields) e) in
+      (count, omega (arith, no-refusal bytes old n .0 none .1), rw (none, count))
 
-  pub written-held : (n : ℕ) → writeAnswer reasons bytes old ≡ gives n
-      → (take n (writeLeaves reasons bytes old) ≡ bytes) × (n ≡ length bytes) × (n ≤ length old) × (drop n (writeLeaves reasons bytes old) ≡ drop n old)
-  written-held n e =
-      let (l, room, left) = written-is n e in
-      (ap (take n) left ∙ take-at bytes (drop n old) n l, sym l, room, ap (drop n) left ∙ drop-at bytes (drop n old) n l)
+  pub written-held : (k : ℕ) → writeAnswer n bytes old ≡ gives k
+      → (take k (writeLeaves n bytes old) ≡ bytes) × (k ≡ length bytes) × (k ≤ length old) × (drop k (writeLeaves n bytes old) ≡ drop k old)
+  written-held k e =
+      let (l, room, left) = written-is k e in
+      (ap (take k) left ∙ take-at bytes (drop k old) k l, sym l, room, ap (drop k) left ∙ drop-at bytes (drop k old) k l)
 
   -- what is read of the bytes is read of those that the buffer holds
-  pub read-held : {B : Type 0} {b : B} (read : List ℕ → B) → read bytes ≡ b → (n : ℕ) → writeAnswer reasons bytes old ≡ gives n → read (take n (writeLeaves reasons bytes old)) ≡ b
-  read-held read h n e = ap read (written-held n e .0) ∙ h
+  pub read-held : {B : Type 0} {b : B} (read : List ℕ → B) → read bytes ≡ b → (k : ℕ) → writeAnswer n bytes old ≡ gives k → read (take k (writeLeaves n bytes old)) ≡ b
+  read-held read h k e = ap read (written-held k e .0) ∙ h
 
-  pub write-refused : ¬ (writeAnswer reasons bytes old .number ≡ 0) → (writeAnswer reasons bytes old .fields ≡ 0) × (writeLeaves reasons bytes old ≡ old)
+  pub write-refused : ¬ (writeAnswer n bytes old .number ≡ 0) → (writeAnswer n bytes old .fields ≡ 0) × (writeLeaves n bytes old ≡ old)
   unfolding writeAnswer writeLeaves
-  write-refused n = rw (ne-eqb (writeRefusal reasons bytes old) 0 n) (refl, refl)
+  write-refused m = rw (ne-eqb (writeRefusal n bytes old) 0 m) (refl, refl)
 
-  pub write-length : length (writeLeaves reasons bytes old) ≡ length old
+  pub write-length : length (writeLeaves n bytes old) ≡ length old
   unfolding writeAnswer writeLeaves
-  write-length = elim (ℕ-discrete (writeRefusal reasons bytes old) 0) [
+  write-length = elim (ℕ-discrete (writeRefusal n bytes old) 0) [
     | yes e ↦
-        let room = not-short reasons bytes old e .0 in
+        let room = no-refusal bytes old n .0 e .1 in
         rw e (omega (arith, length-append bytes (drop (length bytes) old), length-drop (length bytes) old))
-    | no n ↦ ap length (write-refused n .1)
+    | no m ↦ ap length (write-refused m .1)
   ]
+
+-- ---- a writer's refusal in an order of numbers
+
+-- none of the numbers is 0
+unfoldable pub positive : List ℕ → Bool
+positive [] = true
+positive (n ∷ ns) = cond (eqb n 0) false (positive ns)
+
+-- the first of the numbers whose condition holds, or m where none does
+unfoldable pub firstOr : List (ℕ × Bool) → List ℕ → ℕ → ℕ
+firstOr reasons [] m = m
+firstOr reasons (n ∷ ns) m = cond (holds n reasons) n (firstOr reasons ns m)
+
+-- they come before the room
+pub first-or : (reasons : List (ℕ × Bool)) (bytes old ns : List ℕ) → positive ns ≡ true → (m : ℕ) {k : ℕ} → writeRefusal m bytes old ≡ k
+    → writeRefusal (firstOr reasons ns m) bytes old ≡ firstOr reasons ns k
+unfolding positive firstOr
+first-or reasons bytes old [] w m e = e
+first-or reasons bytes old (n ∷ ns) w m {k} e = go (eqb n 0) (holds n reasons) refl w (λ v. first-or reasons bytes old ns v m e)
+  where
+    go : (z t : Bool) → eqb n 0 ≡ z → cond z false (positive ns) ≡ true → (positive ns ≡ true → writeRefusal (firstOr reasons ns m) bytes old ≡ firstOr reasons ns k)
+        → writeRefusal (cond t n (firstOr reasons ns m)) bytes old ≡ cond t n (firstOr reasons ns k)
+    go true t q w ih = absurd (false≢true w)
+    go false true q w ih = stands bytes old n (eqb-false n 0 q)
+    go false false q w ih = ih w

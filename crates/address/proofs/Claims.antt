@@ -2,15 +2,16 @@
 use mathlib.Core.Path.{_≡_, refl, sym, ap, ap₂, _∙_}
 use mathlib.Core.Logic.{_⊎_, inl, inr, _↔_}
 use mathlib.Core.Bool.{Bool, true, false, cond, and-eq-true-iff, false≢true}
-use mathlib.Core.List.{List, [], _∷_}
+use mathlib.Core.List.{List, [], _∷_, _++_, map}
 use Prim.Native.Nat.{ℕ, zero, suc, _+_, _-_, _*_, _/_, _%_, _^_, _≤_, _<_}
 use native.Mathlib.Decide.{decLe, decLt, ℕ-discrete}
 use native.Mathlib.Omega.{arith}
-use borrow.Author.Tests.{eqb-true, eq-eqb, ne-eqb}
+use borrow.Author.Tests.{eqb-true, ltb-true, eq-eqb, ne-eqb}
 use lib.Arith.{digits-lt}
-use lib.Dec.{eqb}
-use lib.ListN.{length, take, drop, getD}
+use lib.Dec.{eqb, ltb}
+use lib.ListN.{length, take, drop, getD, replicate}
 use lib.Pow.{high, low}
+use Rattle.wide.proofs.Aligned.{aligned-nothing}
 use Rattle.cover.specs.Blocks.{IsBlock}
 use Rattle.address.specs.declared.Address.{Address}
 use Rattle.address.specs.declared.Address.the-variants.{V4, V6}
@@ -21,16 +22,16 @@ use Rattle.address.specs.declared.Refusal.the-variants.{TextTooLong, Mal
 use Rattle.address.specs.declared.Reading.{Reading}
 use Rattle.address.specs.declared.Writing.{Writing}
 use Rattle.address.specs.declared.BlockReading.{BlockReading}
-use Rattle.address.specs.Answers.{Answer, refusalNumber, precedence, holds, firstOf, refusal, gives, refuses, noAddress, noBlock, readingAnswer, writingAnswer, blockAnswer, writeAnswer, writeLeaves}
+use Rattle.address.specs.Answers.{Answer, refusalNumber, firstOf, holds, inOrder, refusal, precedence, gives, refuses, noAddress, noBlock, readingAnswer, writingAnswer, blockAnswer, writeRefusal, writeAnswer, writeLeaves}
 use Rattle.address.specs.Addresses.{IsAddress, family, width, number, addressOrder, sameAddress}
-use Rattle.address.specs.Blocks.{numbered, blockReasons, blockRefusal, sameBlock}
+use Rattle.address.specs.Blocks.{numbered, tooLong, bitsBeyond, blockRefusal, sameBlock}
 use Rattle.address.specs.declared.Reading.the-variants as reading
 use Rattle.address.specs.declared.Writing.the-variants as writing
 use Rattle.address.specs.declared.BlockReading.the-variants as block
 use Rattle.address.proofs.AddressLaws.{order-exactly, width-follows}
 use Rattle.address.proofs.AnswerLaws.{number-pos}
 use Rattle.address.proofs.AnswerLaws as laws
-use Rattle.address.proofs.BlockLaws.{refusal-length, refusal-bits, refusal-none}
+use Rattle.address.proofs.BlockLaws.{refusal-length, refusal-bits, refusal-none, block-not-3}
 
 -- ---- refusals
 
@@ -57,60 +58,73 @@ one-number e f h = sym (refusal-at e) ∙ ap (λ (n : ℕ). getD refusals (n - 1
 pub number-above-0 : (e : Refusal) → 0 < refusalNumber e
 number-above-0 = number-pos
 
--- A call's refusal is one that holds.
-pub refusal-holds : (reasons : List (ℕ × Bool)) → 0 < refusal reasons → holds (refusal reasons) reasons ≡ true
-unfolding refusal
-refusal-holds reasons = go precedence
-  where
-    pick : (t : Bool) (n m : ℕ) → holds n reasons ≡ t → (0 < m → holds m reasons ≡ true) → 0 < cond t n m → holds (cond t n m) reasons ≡ true
-    pick true n m e ih h = e
-    pick false n m e ih h = ih h
+-- ---- the order of refusals
 
-    go : (ns : List ℕ) → 0 < firstOf ns reasons → holds (firstOf ns reasons) reasons ≡ true
-    go [] h = absurd (omega arith)
-    go (n ∷ ns) h = pick (holds n reasons) n (firstOf ns reasons) refl (go ns) h
+-- The first condition that holds decides, whatever stands behind it;
+pub first-decides : (before after : List (ℕ × Bool)) (n : ℕ) → map (λ c. c .1) before ≡ replicate (length before) false → firstOf (before ++ (n, true) ∷ after) ≡ n
+unfolding firstOf
+first-decides [] after n h = refl
+first-decides ((m, t) ∷ before) after n h = rw (ap (λ ts. getD ts 0 false) h) (first-decides before after n (ap (drop 1) h))
 
--- And where one holds, the refusal is that one or one that stands before it in the order.
-pub refusal-first : (reasons : List (ℕ × Bool)) (i : ℕ) → i < length precedence → holds (getD precedence i 0) reasons ≡ true
-    → (j : ℕ) × (j ≤ i) × (refusal reasons ≡ getD precedence j 0)
-unfolding refusal
-refusal-first reasons = go precedence
-  where
-    go : (ns : List ℕ) (i : ℕ) → i < length ns → holds (getD ns i 0) reasons ≡ true → (j : ℕ) × (j ≤ i) × (firstOf ns reasons ≡ getD ns j 0)
-    go [] i l h = absurd (omega arith)
-    go (n ∷ ns) zero l h = (0, omega arith, rw h)
-    go (n ∷ ns) (suc i) l h = pick (holds n reasons) (go ns i (omega arith) h)
-      where
-        pick : (t : Bool) → (j : ℕ) × (j ≤ i) × (firstOf ns reasons ≡ getD ns j 0) → (j : ℕ) × (j ≤ suc i) × (cond t n (firstOf ns reasons) ≡ getD (n ∷ ns) j 0)
-        pick true ih = (0, omega arith, refl)
-        pick false (j, k, e) = (suc j, omega arith, e)
+-- and where none holds, nothing is refused.
+pub none-holds : (conditions : List (ℕ × Bool)) → map (λ c. c .1) conditions ≡ replicate (length conditions) false → firstOf conditions ≡ 0
+unfolding firstOf
+none-holds [] h = refl
+none-holds ((m, t) ∷ conditions) h = rw (ap (λ ts. getD ts 0 false) h) (none-holds conditions (ap (drop 1) h))
+
+module _ (reasons : List (ℕ × Bool)) where
+  -- A call's refusal is one that holds, whatever the order.
+  pub refusal-holds : (order : List ℕ) → 0 < refusal order reasons → holds (refusal order reasons) reasons ≡ true
+  unfolding refusal
+  refusal-holds [] h = absurd (omega arith)
+  refusal-holds (n ∷ ns) h = pick (holds n reasons) (firstOf (inOrder ns reasons)) refl (refusal-holds ns) h
+    where
+      pick : (t : Bool) (m : ℕ) → holds n reasons ≡ t → (0 < m → holds m reasons ≡ true) → 0 < cond t n m → holds (cond t n m) reasons ≡ true
+      pick true m e ih h = e
+      pick false m e ih h = ih h
+
+  -- And where one holds, the refusal is that one or one that stands before it in the order.
+  pub refusal-first : (order : List ℕ) (i : ℕ) → i < length order → holds (getD order i 0) reasons ≡ true → (j : ℕ) × (j ≤ i) × (refusal order reasons ≡ getD order j 0)
+  unfolding refusal
+  refusal-first [] i l h = absurd (omega arith)
+  refusal-first (n ∷ ns) zero l h = (0, omega arith, rw h)
+  refusal-first (n ∷ ns) (suc i) l h = pick (holds n reasons) (refusal-first ns i (omega arith) h)
+    where
+      pick : (t : Bool) → (j : ℕ) × (j ≤ i) × (firstOf (inOrder ns reasons) ≡ getD ns j 0) → (j : ℕ) × (j ≤ suc i) × (cond t n (firstOf (inOrder ns reasons)) ≡ getD (n ∷ ns) j 0)
+      pick true ih = (0, omega arith, refl)
+      pick false (j, k, e) = (suc j, omega arith, e)
+
+  -- A writer's refusal is the one that 01's order gives, where 3 is last: "the lent buffer is shorter than the bytes the answer needs".
+  pub room-last : holds 3 reasons ≡ false → (bytes old : List ℕ)
+      → writeRefusal (refusal precedence reasons) bytes old ≡ refusal precedence ((3, ltb (length old) (length bytes)) ∷ reasons)
+  unfolding refusal laws.firstOr laws.positive
+  room-last others bytes old = laws.first-or reasons bytes old (9 ∷ 1 ∷ 2 ∷ 4 ∷ 5 ∷ 6 ∷ 7 ∷ 8 ∷ []) refl (cond (holds 3 reasons) 3 0) (rw others refl)
 
 -- ---- lent buffers
 
-module _ (reasons : List (ℕ × Bool)) (bytes old : List ℕ) where
+-- Of a call that writes bytes, where its other conditions give the number n:
+module _ (n : ℕ) (bytes old : List ℕ) where
   -- "A good answer changes only the first bytes it counts; later bytes stay." The bytes that it counts are those to be written, all of them.
-  pub written-held : (n : ℕ) → writeAnswer reasons bytes old ≡ gives n
-      → (take n (writeLeaves reasons bytes old) ≡ bytes) × (n ≡ length bytes) × (n ≤ length old) × (drop n (writeLeaves reasons bytes old) ≡ drop n old)
-  written-held = laws.written-held reasons bytes old
+  pub written-held : (k : ℕ) → writeAnswer n bytes old ≡ gives k
+      → (take k (writeLeaves n bytes old) ≡ bytes) × (k ≡ length bytes) × (k ≤ length old) × (drop k (writeLeaves n bytes old) ≡ drop k old)
+  written-held = laws.written-held n bytes old
 
   -- "A refusal returns its number with every other field zero, and no byte of a lent buffer differs from before."
-  pub write-refused : ¬ (writeAnswer reasons bytes old .number ≡ 0) → (writeAnswer reasons bytes old .fields ≡ 0) × (writeLeaves reasons bytes old ≡ old)
-  write-refused = laws.write-refused reasons bytes old
+  pub write-refused : ¬ (writeAnswer n bytes old .number ≡ 0) → (writeAnswer n bytes old .fields ≡ 0) × (writeLeaves n bytes old ≡ old)
+  write-refused = laws.write-refused n bytes old
 
   -- Whatever the answer, the buffer is as long as before.
-  pub length-stays : length (writeLeaves reasons bytes old) ≡ length old
-  length-stays = laws.write-length reasons bytes old
+  pub length-stays : length (writeLeaves n bytes old) ≡ length old
+  length-stays = laws.write-length n bytes old
 
-  -- Of a call whose own reasons are others than 3:
-  module _ (others : holds 3 reasons ≡ false) where
-    -- "refusal 3 exactly if the room is less", 3 being the last in the order
-    pub room-exactly : (writeAnswer reasons bytes old .number ≡ 3) ↔ ((refusal reasons ≡ 0) × (length old < length bytes))
-    unfolding writeAnswer
-    room-exactly = laws.refusal-3 reasons bytes old others
+  -- "refusal 3 exactly if the room is less", where no other refusal comes first
+  pub room-exactly : ¬ (n ≡ 3) → (writeAnswer n bytes old .number ≡ 3) ↔ ((n ≡ 0) × (length old < length bytes))
+  unfolding writeAnswer
+  room-exactly = laws.refusal-3 bytes old n
 
-    -- and it is good exactly if no reason holds and the bytes fit
-    pub good-exactly : (writeAnswer reasons bytes old ≡ gives (length bytes)) ↔ ((refusal reasons ≡ 0) × (length bytes ≤ length old))
-    good-exactly = (λ e. (laws.good-no-reason reasons bytes old others (length bytes) e, written-held (length bytes) e .2), λ p. laws.write-good reasons bytes old (p .0) (p .1))
+  -- and it is good exactly if nothing else is refused and the bytes fit
+  pub good-exactly : (writeAnswer n bytes old ≡ gives (length bytes)) ↔ ((n ≡ 0) × (length bytes ≤ length old))
+  good-exactly = (λ e. (laws.good-no-reason n bytes old (length bytes) e, written-held (length bytes) e .2), λ p. laws.write-good n bytes old (p .0) (p .1))
 
 -- ---- a promise about the paper's answer fixes the code's answer
 
@@ -273,23 +287,26 @@ valid-means b h = (to, from)
     from : IsBlock W (numbered b) → blockRefusal b ≡ 0
     from B = refusal-none b (B .short) (eq-eqb rest 0 (B .aligned))
 
+-- No block value breaks both rules: a length above the width leaves blocks of one address.
+pub never-both : (b : Block) → tooLong b ≡ true → bitsBeyond b ≡ false
+never-both b e =
+    let none : width (b .address) - b .length ≡ 0 = omega (arith, ltb-true (width (b .address)) (b .length) e) in
+    rw none (rw (aligned-nothing (number (b .address))) refl)
+
 -- A call that writes a block value by its reasons is good only for a block.
-pub written-valid : (b : Block) → IsAddress (b .address) → (bytes old : List ℕ) (n : ℕ) → writeAnswer (blockReasons b) bytes old ≡ gives n → IsBlock (width (b .address)) (numbered b)
-unfolding blockRefusal
-written-valid b h bytes old n e = valid-means b h .0 (laws.good-no-reason (blockReasons b) bytes old refl n e)
+pub written-valid : (b : Block) → IsAddress (b .address) → (bytes old : List ℕ) (n : ℕ) → writeAnswer (blockRefusal b) bytes old ≡ gives n → IsBlock (width (b .address)) (numbered b)
+written-valid b h bytes old n e = valid-means b h .0 (laws.good-no-reason (blockRefusal b) bytes old n e)
 
 -- It is good exactly if the block value is a block and the bytes fit, and refusal 3 exactly if it is a block and the room is less.
 module _ (b : Block) (h : IsAddress (b .address)) (bytes old : List ℕ) where
-  pub block-good-exactly : (writeAnswer (blockReasons b) bytes old ≡ gives (length bytes)) ↔ (IsBlock (width (b .address)) (numbered b) × (length bytes ≤ length old))
-  unfolding blockRefusal
+  pub block-good-exactly : (writeAnswer (blockRefusal b) bytes old ≡ gives (length bytes)) ↔ (IsBlock (width (b .address)) (numbered b) × (length bytes ≤ length old))
   block-good-exactly =
-      let good = good-exactly (blockReasons b) bytes old refl in
+      let good = good-exactly (blockRefusal b) bytes old in
       let valid = valid-means b h in
       (λ e. let g = good .0 e in (valid .0 (g .0), g .1), λ p. good .1 (valid .1 (p .0), p .1))
 
-  pub block-room-exactly : (writeAnswer (blockReasons b) bytes old .number ≡ 3) ↔ (IsBlock (width (b .address)) (numbered b) × (length old < length bytes))
-  unfolding blockRefusal
+  pub block-room-exactly : (writeAnswer (blockRefusal b) bytes old .number ≡ 3) ↔ (IsBlock (width (b .address)) (numbered b) × (length old < length bytes))
   block-room-exactly =
-      let room = room-exactly (blockReasons b) bytes old refl in
+      let room = room-exactly (blockRefusal b) bytes old (block-not-3 b) in
       let valid = valid-means b h in
       (λ e. let r = room .0 e in (valid .0 (r .0), r .1), λ p. room .1 (valid .1 (p .0), p .1))

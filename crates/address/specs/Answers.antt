@@ -31,25 +31,32 @@ refusalNumber HostTooLarge = 7
 refusalNumber FirstAboveLast = 8
 refusalNumber WrongFamily = 9
 
+-- ---- the order of refusals
+
+-- The number of the first condition that holds, or 0 where none does: a call's conditions, each with its number, in the call's own order.
+unfoldable pub firstOf : List (ℕ × Bool) → ℕ
+firstOf [] = 0
+firstOf (c ∷ cs) = cond (c .1) (c .0) (firstOf cs)
+
+-- whether the condition of that number is listed as holding
+unfoldable pub holds : ℕ → List (ℕ × Bool) → Bool
+holds n [] = false
+holds n (c ∷ cs) = elim (eqb n (c .0)) [ true ↦ c .1 | false ↦ holds n cs ]
+
+-- the conditions in an order of their numbers
+unfoldable pub inOrder : List ℕ → List (ℕ × Bool) → List (ℕ × Bool)
+unfolding holds
+inOrder [] reasons = []
+inOrder (n ∷ ns) reasons = (n, holds n reasons) ∷ inOrder ns reasons
+
+-- A call's refusal where its order is one of numbers, from each number that it can give and whether that one's condition holds.
+unfoldable pub refusal : List ℕ → List (ℕ × Bool) → ℕ
+unfolding firstOf inOrder
+refusal order reasons = firstOf (inOrder order reasons)
+
 -- "Where several hold, the order is 9, 1, 2, 4, 5, 6, 7, 8, 3."
 abbrev pub precedence : List ℕ
 precedence = 9 ∷ 1 ∷ 2 ∷ 4 ∷ 5 ∷ 6 ∷ 7 ∷ 8 ∷ 3 ∷ []
-
--- whether the refusal of that number is listed as holding
-unfoldable pub holds : ℕ → List (ℕ × Bool) → Bool
-holds n [] = false
-holds n (r ∷ rs) = elim (eqb n (r .0)) [ true ↦ r .1 | false ↦ holds n rs ]
-
--- the first of the numbers that holds, or 0 where none does
-unfoldable pub firstOf : List ℕ → List (ℕ × Bool) → ℕ
-unfolding holds
-firstOf [] reasons = 0
-firstOf (n ∷ ns) reasons = cond (holds n reasons) n (firstOf ns reasons)
-
--- A call's refusal, from each number that it can give and whether that one's condition holds; 0 for none.
-unfoldable pub refusal : List (ℕ × Bool) → ℕ
-unfolding firstOf
-refusal reasons = firstOf precedence reasons
 
 -- What a call answers in the paper's terms: the refusal's number, 0 for none, and the other fields.
 pub record Answer (A : Type 0) : Type 0 where
@@ -101,22 +108,21 @@ missing none = true
 missing (some a) = false
 
 -- What a reader of text answers, from what the text means: 2 where it has no meaning of the form asked for, or another reason.
-unfoldable pub readAnswer : {A : Type 0} → A → List (ℕ × Bool) → Option A → Answer A
+unfoldable pub readAnswer : {A : Type 0} → List ℕ → A → List (ℕ × Bool) → Option A → Answer A
 unfolding refusal
-readAnswer zeros reasons meaning = answer zeros (refusal ((2, missing meaning) ∷ reasons)) (Option·getD meaning zeros)
+readAnswer order zeros reasons meaning = answer zeros (refusal order ((2, missing meaning) ∷ reasons)) (Option·getD meaning zeros)
 
 -- ---- lent buffers
 
--- The refusal of a call that writes these bytes to the start of a buffer: 3 where the buffer is shorter, or another reason.
-abbrev pub writeRefusal : List (ℕ × Bool) → List ℕ → List ℕ → ℕ
-writeRefusal reasons bytes old = refusal ((3, ltb (length old) (length bytes)) ∷ reasons)
+-- The refusal of a call that writes these bytes to the start of a buffer, where its other conditions give the number n: that, or 3 where
+-- the buffer is shorter, which is last in every call's order.
+abbrev pub writeRefusal : ℕ → List ℕ → List ℕ → ℕ
+writeRefusal n bytes old = cond (eqb n 0) (cond (ltb (length old) (length bytes)) 3 0) n
 
 -- what such a call answers: the number of bytes written
-unfoldable pub writeAnswer : List (ℕ × Bool) → List ℕ → List ℕ → Answer ℕ
-unfolding refusal
-writeAnswer reasons bytes old = answer 0 (writeRefusal reasons bytes old) (length bytes)
+unfoldable pub writeAnswer : ℕ → List ℕ → List ℕ → Answer ℕ
+writeAnswer n bytes old = answer 0 (writeRefusal n bytes old) (length bytes)
 
 -- and what it leaves in the buffer: the bytes and, behind them, what stood there; a refusal alters nothing
-unfoldable pub writeLeaves : List (ℕ × Bool) → List ℕ → List ℕ → List ℕ
-unfolding refusal
-writeLeaves reasons bytes old = cond (eqb (writeRefusal reasons bytes old) 0) (bytes ++ drop (length bytes) old) old
+unfoldable pub writeLeaves : ℕ → List ℕ → List ℕ → List ℕ
+writeLeaves n bytes old = cond (eqb (writeRefusal n bytes old) 0) (bytes ++ drop (length bytes) old) old

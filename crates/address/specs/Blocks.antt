@@ -5,7 +5,7 @@ use Prim.Native.Nat.{ℕ, _%_}
 use lib.Dec.{eqb, ltb}
 use Rattle.cover.specs.Blocks as cover
 use Rattle.address.specs.declared.Block.{Block}
-use Rattle.address.specs.Answers.{refusal}
+use Rattle.address.specs.Answers.{precedence, refusal}
 use Rattle.address.specs.Addresses.{width, number, sameAddress}
 
 -- the block among the numbers of its family's width
@@ -24,7 +24,7 @@ blockReasons b = (4, tooLong b) ∷ (5, bitsBeyond b) ∷ []
 
 unfoldable pub blockRefusal : Block → ℕ
 unfolding refusal
-blockRefusal b = refusal (blockReasons b)
+blockRefusal b = refusal precedence (blockReasons b)
 
 abbrev pub sameBlock : Block → Block → Bool
 sameBlock a b = sameAddress (a .address) (b .address) && eqb (a .length) (b .length)

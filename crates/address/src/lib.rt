@@ -3,7 +3,7 @@ ghost use mathlib.Core.Path.{_≡_};
 ghost use mathlib.Core.Option.{some};
 ghost use Rattle.wide.specs.Value.{value};
 ghost use Rattle.address.specs.Addresses.{family, width, number, addressOrder, sameAddress};
-ghost use Rattle.address.specs.Answers.{refusalNumber, checkNumber, noBlock, blockAnswer, readAnswer};
+ghost use Rattle.address.specs.Answers.{refusalNumber, precedence, checkNumber, noBlock, blockAnswer, readAnswer};
 ghost use Rattle.address.specs.Blocks.{blockReasons, blockRefusal, sameBlock};
 use wide::Wide;
 
@@ -168,7 +168,7 @@ impl Block {
 
     // The block, where it keeps both rules.
     pub fn checked(self) -> BlockReading
-        ensures { λ r. ⌜ blockAnswer r ≡ readAnswer noBlock (blockReasons self) (some self) ⌝ }
+        ensures { λ r. ⌜ blockAnswer r ≡ readAnswer precedence noBlock (blockReasons self) (some self) ⌝ }
     {
         match self.check() {
             Check::Valid => BlockReading::Read(self),

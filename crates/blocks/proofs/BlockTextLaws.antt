@@ -20,7 +20,7 @@ use Rattle.address.specs.declared.Reading.the-variants.{Read, Refused}
 use Rattle.address.specs.declared.Refusal.{Refusal}
 use Rattle.address.specs.declared.Refusal.the-variants.{TextTooLong, Malformed, LengthTooLarge}
 use Rattle.address.specs.Addresses.{width}
-use Rattle.address.specs.Answers.{Answer, refuses, noBlock, readingAnswer, readAnswer}
+use Rattle.address.specs.Answers.{precedence, Answer, refuses, noBlock, readingAnswer, readAnswer}
 use Rattle.address.specs.Blocks.{blockReasons}
 use Rattle.address.proofs.Claims.{one-reading}
 use Rattle.digits.specs.declared.read.Leading.the-variants.{Number, Nothing}
@@ -57,7 +57,7 @@ module _ (t : List ℕ) where
       answer-large l = rw (h, le-ltb 64 (length t) short, lt-ltb (width (b .address)) (b .length) (omega (arith, width-most (b .address))))
 
       -- a text that has the form has the block's own refusals alone
-      pub answer-checked : readAnswer noBlock (blockReasons b) (some b) ≡ blockTextAnswer t
+      pub answer-checked : readAnswer precedence noBlock (blockReasons b) (some b) ≡ blockTextAnswer t
       unfolding blockTextAnswer readAnswer
       answer-checked = rw (h, le-ltb 64 (length t) short)
 
@@ -105,7 +105,7 @@ module _ (t : List ℕ) (s : ℕ) (at : s ≡ indexOf 47 t) (short : length t �
       pub length-large : 128 < n → refuses noBlock LengthTooLarge ≡ blockTextAnswer t
       length-large = answer-large t short found block-is
 
-      pub block-checked : {r : Answer Block} → r ≡ readAnswer noBlock (blockReasons found) (some found) → r ≡ blockTextAnswer t
+      pub block-checked : {r : Answer Block} → r ≡ readAnswer precedence noBlock (blockReasons found) (some found) → r ≡ blockTextAnswer t
       block-checked c = c ∙ answer-checked t short found block-is
 
 -- ---- the text

@@ -9,7 +9,7 @@ use Rattle.cover.specs.Blocks.{IsBlock}
 use Rattle.address.specs.declared.Block.{Block}
 use Rattle.address.specs.Addresses.{IsAddress, width}
 use Rattle.address.specs.Answers.{gives, writeAnswer, writeLeaves}
-use Rattle.address.specs.Blocks.{numbered, blockReasons}
+use Rattle.address.specs.Blocks.{blockRefusal, numbered}
 use Rattle.address.proofs.AnswerLaws.{read-held}
 use Rattle.address.proofs.Claims.{valid-means, written-valid}
 use Rattle.blocks.specs.BlockText.{blockOf, blockTextAnswer, blockText}
@@ -30,6 +30,6 @@ read-back-answer b h k = answer-back b h (omega (arith, k .short, width-most (b 
 
 -- Demand 2 for blocks, of what the caller holds: the bytes that the buffer holds after a good call, as many as it says, are read as the
 -- block. A good call tells that it keeps both rules.
-pub written-read-back : (b : Block) → IsAddress (b .address) → (old : List ℕ) (n : ℕ) → writeAnswer (blockReasons b) (blockText b) old ≡ gives n
-    → blockTextAnswer (take n (writeLeaves (blockReasons b) (blockText b) old)) ≡ gives b
-written-read-back b h old n e = read-held (blockReasons b) (blockText b) old blockTextAnswer (read-back-answer b h (written-valid b h (blockText b) old n e)) n e
+pub written-read-back : (b : Block) → IsAddress (b .address) → (old : List ℕ) (n : ℕ) → writeAnswer (blockRefusal b) (blockText b) old ≡ gives n
+    → blockTextAnswer (take n (writeLeaves (blockRefusal b) (blockText b) old)) ≡ gives b
+written-read-back b h old n e = read-held (blockRefusal b) (blockText b) old blockTextAnswer (read-back-answer b h (written-valid b h (blockText b) old n e)) n e

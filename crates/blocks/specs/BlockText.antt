@@ -8,7 +8,7 @@ use lib.ListN.{length, take, drop}
 use Rattle.notation.specs.Pieces.{contains, indexOf}
 use Rattle.address.specs.declared.Address.{Address}
 use Rattle.address.specs.declared.Block.{Block}
-use Rattle.address.specs.Answers.{Answer, readAnswer, noBlock}
+use Rattle.address.specs.Answers.{precedence, Answer, readAnswer, noBlock}
 use Rattle.address.specs.Blocks.{blockReasons}
 use Rattle.digits.specs.Numerals.{partOf, decimal}
 use Rattle.text.specs.Strict.{strictOf}
@@ -27,7 +27,7 @@ blockOf t = cond (contains 47 t) (withLength (strictOf 0 (take (indexOf 47 t) t)
 -- what reading answers: "the text is longer than 64 bytes", "not of the form asked for", or the block's own refusals
 unfoldable pub blockTextAnswer : List ℕ → Answer Block
 unfolding blockOf readAnswer
-blockTextAnswer t = readAnswer noBlock ((1, ltb 64 (length t)) ∷ blockReasons (Option·getD (blockOf t) noBlock)) (blockOf t)
+blockTextAnswer t = readAnswer precedence noBlock ((1, ltb 64 (length t)) ∷ blockReasons (Option·getD (blockOf t) noBlock)) (blockOf t)
 
 -- "Text is written from a block value in normal text": the address, a slash and the length
 unfoldable pub blockText : Block → List ℕ

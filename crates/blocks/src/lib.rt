@@ -1,7 +1,7 @@
 // The text of a block: an address, a slash and a length, read and written.
 ghost use mathlib.Core.Path.{_≡_};
 ghost use Rattle.address.specs.Answers.{blockAnswer, writingAnswer, writeAnswer, writeLeaves};
-ghost use Rattle.address.specs.Blocks.{blockReasons};
+ghost use Rattle.address.specs.Blocks.{blockRefusal};
 ghost use Rattle.output.specs.Placing.{Puts};
 ghost use Rattle.blocks.specs.BlockText.{blockTextAnswer, blockText};
 use address::Block;
@@ -59,7 +59,7 @@ pub fn put_block(text: &mut [u8], at: usize, block: Block) -> usize
 
 // Writes the text of a block to the start of `out`, where the block keeps both rules and there is room for it.
 pub fn write_block(block: Block, out: &mut [u8]) -> Writing
-    ensures { λ r. ⌜ (writingAnswer r ≡ writeAnswer (blockReasons block) (blockText block) (now (out .entry))) × (now (out .exit) ≡ writeLeaves (blockReasons block) (blockText block) (now (out .entry))) ⌝ }
+    ensures { λ r. ⌜ (writingAnswer r ≡ writeAnswer (blockRefusal block) (blockText block) (now (out .entry))) × (now (out .exit) ≡ writeLeaves (blockRefusal block) (blockText block) (now (out .entry))) ⌝ }
 {
     match block.check() {
         Check::Refused(e) => Writing::Refused(e),

@@ -9,7 +9,7 @@ use borrow.Author.Tests.{eq-eqb, ne-eqb, le-leb, lt-leb}
 use lib.Dec.{leb, ltb}
 use Rattle.address.specs.declared.Address.the-variants.{V4, V6}
 use Rattle.address.specs.declared.Refusal.the-variants.{NoClass, WrongFamily}
-use Rattle.address.specs.Answers.{answer, gives, refuses, refusal, noAddress}
+use Rattle.address.specs.Answers.{precedence, answer, gives, refuses, refusal, noAddress}
 use Rattle.classes.specs.Classes.{Class, classA, classB, classC, table, rowOf, begins, liesIn, classOf, networkClass, hosts, splitAnswer, joinAnswer}
 
 module _ (test : Class → Bool) (c : Class) (cs : List Class) where
@@ -112,6 +112,6 @@ module _ (n : ℕ) where
     unfolding joinAnswer
     join-none e = rw e
 
-    pub join-class : (c : Class) → networkClass n ≡ some c → answer noAddress (refusal ((7, ltb (c .hostMost) h) ∷ [])) (V4 (n * hosts c + h)) ≡ joinAnswer n h
+    pub join-class : (c : Class) → networkClass n ≡ some c → answer noAddress (refusal precedence ((7, ltb (c .hostMost) h) ∷ [])) (V4 (n * hosts c + h)) ≡ joinAnswer n h
     unfolding joinAnswer
     join-class c e = rw e

@@ -13,7 +13,7 @@ use lib.Dec.{ltb}
 use Rattle.address.specs.declared.Address.{Address}
 use Rattle.address.specs.declared.Address.the-variants.{V4}
 use Rattle.address.specs.declared.Refusal.the-variants.{HostTooLarge}
-use Rattle.address.specs.Answers.{answer, gives, refuses, refusal, missing, noAddress}
+use Rattle.address.specs.Answers.{precedence, answer, gives, refuses, refusal, missing, noAddress}
 use Rattle.classes.specs.Classes.{Class, classA, classB, classC, classOf, networkClass, hosts, networkHost, hostTooLarge, hostAddress, splitAnswer, joinAnswer}
 use Rattle.classes.proofs.ClassLaws.{class-a, class-b, class-c, class-none, network-a, network-b, network-c, network-ab, network-bc, network-above, split-class, join-class}
 
@@ -91,7 +91,7 @@ pub split-says : (v n h : ℕ) → splitAnswer (V4 v) ≡ gives (n, h) → (c : 
 unfolding splitAnswer
 split-says v n h e = go (classOf v) refl e
   where
-    go : (o : Option Class) → classOf v ≡ o → answer (0, 0) (refusal ((9, false) ∷ (6, missing o) ∷ [])) (networkHost o v) ≡ gives (n, h)
+    go : (o : Option Class) → classOf v ≡ o → answer (0, 0) (refusal precedence ((9, false) ∷ (6, missing o) ∷ [])) (networkHost o v) ≡ gives (n, h)
         → (c : Class) × (classOf v ≡ some c) × (v / hosts c ≡ n) × (v % hosts c ≡ h)
     go none p q = let z : _≡_ {A = ℕ} 6 0 = ap (λ r. r .number) q in absurd (omega arith)
     go (some c) p q = (c, p, ap (λ r. r .fields .0) q, ap (λ r. r .fields .1) q)
@@ -101,11 +101,11 @@ pub join-says : (n h : ℕ) (a : Address) → joinAnswer n h ≡ gives a → (c 
 unfolding joinAnswer
 join-says n h a e = go (networkClass n) refl e
   where
-    go : (o : Option Class) → networkClass n ≡ o → answer noAddress (refusal ((6, missing o) ∷ (7, hostTooLarge o h) ∷ [])) (hostAddress o n h) ≡ gives a
+    go : (o : Option Class) → networkClass n ≡ o → answer noAddress (refusal precedence ((6, missing o) ∷ (7, hostTooLarge o h) ∷ [])) (hostAddress o n h) ≡ gives a
         → (c : Class) × (networkClass n ≡ some c) × (h ≤ c .hostMost)
     go none p q = let z : _≡_ {A = ℕ} 6 0 = ap (λ r. r .number) q in absurd (omega arith)
     go (some c) p q = (c, p, room (ltb (c .hostMost) h) refl q)
       where
-        room : (b : Bool) → ltb (c .hostMost) h ≡ b → answer noAddress (refusal ((6, false) ∷ (7, b) ∷ [])) (hostAddress (some c) n h) ≡ gives a → h ≤ c .hostMost
+        room : (b : Bool) → ltb (c .hostMost) h ≡ b → answer noAddress (refusal precedence ((6, false) ∷ (7, b) ∷ [])) (hostAddress (some c) n h) ≡ gives a → h ≤ c .hostMost
         room true r k = let z : _≡_ {A = ℕ} 7 0 = ap (λ r. r .number) k in absurd (omega arith)
         room false r k = ltb-false (c .hostMost) h r

@@ -7,7 +7,7 @@ use lib.Dec.{leb, ltb, eqb}
 use Rattle.address.specs.declared.Address.{Address}
 use Rattle.address.specs.declared.Address.the-variants.{V4}
 use Rattle.address.specs.Addresses.{family, number}
-use Rattle.address.specs.Answers.{Answer, answer, gives, refuses, missing, refusal, noAddress}
+use Rattle.address.specs.Answers.{precedence, Answer, answer, gives, refuses, missing, refusal, noAddress}
 use Rattle.classes.specs.declared.Splitting.{Splitting}
 use Rattle.classes.specs.declared.Splitting.the-variants.{NetworkHost, Refused}
 
@@ -72,7 +72,7 @@ unfoldable pub splitAnswer : Address → Answer (ℕ × ℕ)
 unfolding refusal classOf
 splitAnswer a =
     answer (0, 0)
-    (refusal ((9, eqb (family a) 6) ∷ (6, missing (classOf (number a))) ∷ []))
+    (refusal precedence ((9, eqb (family a) 6) ∷ (6, missing (classOf (number a))) ∷ []))
     (networkHost (classOf (number a)) (number a))
 
 -- the code's answer in the paper's terms: the network number and the host number
@@ -96,4 +96,4 @@ unfoldable pub joinAnswer : ℕ → ℕ → Answer Address
 unfolding refusal networkClass
 joinAnswer network host =
     let c = networkClass network in
-    answer noAddress (refusal ((6, missing c) ∷ (7, hostTooLarge c host) ∷ [])) (hostAddress c network host)
+    answer noAddress (refusal precedence ((6, missing c) ∷ (7, hostTooLarge c host) ∷ [])) (hostAddress c network host)

@@ -3,7 +3,7 @@ ghost use mathlib.Core.Path.{_≡_};
 ghost use mathlib.Core.List.{[], _∷_};
 ghost use Prim.Native.Nat.{_+_, _*_, _^_, _<_};
 ghost use lib.Dec.{ltb};
-ghost use Rattle.address.specs.Answers.{answer, noAddress, readingAnswer, refusal};
+ghost use Rattle.address.specs.Answers.{precedence, answer, noAddress, readingAnswer, refusal};
 ghost use Rattle.address.specs.declared.Address.the-variants.{V4};
 ghost use Rattle.classes.specs.Classes.{splittingAnswer, splitAnswer, joinAnswer};
 use address::Address;
@@ -38,7 +38,7 @@ pub fn split(address: Address) -> Splitting
 // The address of a host in a network whose largest host number is `most`.
 fn host_address(network: u32, host: u32, most: u32) -> Reading
     requires { ⌜ (most < 2 ^ 24) × (network * (most + 1) + most < 2 ^ 32) ⌝ }
-    ensures { λ r. ⌜ readingAnswer r ≡ answer noAddress (refusal ((7, ltb most host) ∷ [])) (V4 (network * (most + 1) + host)) ⌝ }
+    ensures { λ r. ⌜ readingAnswer r ≡ answer noAddress (refusal precedence ((7, ltb most host) ∷ [])) (V4 (network * (most + 1) + host)) ⌝ }
 {
     if most < host {
         return Reading::Refused(Refusal::HostTooLarge);

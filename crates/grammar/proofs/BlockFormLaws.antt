@@ -16,7 +16,7 @@ use Rattle.address.specs.declared.Address.the-variants.{V4}
 use Rattle.address.specs.declared.Block.{Block}
 use Rattle.address.specs.declared.Refusal.the-variants.{TextTooLong, Malformed, LengthTooLarge, BitsBeyondLength}
 use Rattle.address.specs.Addresses.{IsAddress, width, number}
-use Rattle.address.specs.Answers.{Answer, gives, noBlock, readAnswer}
+use Rattle.address.specs.Answers.{precedence, Answer, gives, noBlock, readAnswer}
 use Rattle.address.specs.Blocks.{blockReasons}
 use Rattle.address.proofs.BlockLaws.{refusal-length, refusal-bits, refusal-none, read-valid, read-refused}
 use Rattle.address.proofs.Claims.{gives-one, gives-refuses}
@@ -76,7 +76,7 @@ reads-block t b e = go (contains 47 t) refl e
 
 module _ (t : List ℕ) where
   module _ {a : Address} {n : ℕ} (f : BlockForm t a n) where
-    checked : {r : Answer Block} → r ≡ readAnswer noBlock (blockReasons (value a n)) (some (value a n)) → r ≡ blockTextAnswer t
+    checked : {r : Answer Block} → r ≡ readAnswer precedence noBlock (blockReasons (value a n)) (some (value a n)) → r ≡ blockTextAnswer t
     checked e = e ∙ answer-checked t (omega (arith, block-most f)) (value a n) (block-reads f)
 
   pub call-answers : {r : Answer Block} → BlockCall t r → blockTextAnswer t ≡ r

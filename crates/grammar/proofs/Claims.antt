@@ -31,7 +31,7 @@ use Rattle.normal.specs.Normal.{normalGroups, normalText}
 use Rattle.normal.proofs.Claims as normal
 use Rattle.loose.specs.Loose.{loosePart, looseOf, looseAnswer}
 use Rattle.network.specs.GivenBytes.{givenOf, zeroFilled}
-use Rattle.network.specs.NetworkText.{cleared, networkText, writeReasons}
+use Rattle.network.specs.NetworkText.{cleared, networkText, writeNetworkRefusal}
 use Rattle.network.specs.declared.NetworkReading.{NetworkReading}
 use Rattle.network.specs.Network.{Network, networkOf, networkAnswer, networkLeaves, networkReadingAnswer}
 use Rattle.network.proofs.Claims as network
@@ -342,10 +342,10 @@ written-is-network v size h =
 
 module _ (a : Address) (is : IsAddress a) (size : ℕ) (old : List ℕ) where
   abbrev answered : Answer ℕ
-  answered = writeAnswer (writeReasons a size) (networkText (number a) size) old
+  answered = writeAnswer (writeNetworkRefusal a size) (networkText (number a) size) old
 
   abbrev left : List ℕ
-  left = writeLeaves (writeReasons a size) (networkText (number a) size) old
+  left = writeLeaves (writeNetworkRefusal a size) (networkText (number a) size) old
 
   -- The whole answer of the writer and the whole buffer afterwards, refused calls too: 9 before 4 before 3.
   pub network-writing-answers : (r : Answer ℕ) (new : List ℕ) → ((answered ≡ r) × (left ≡ new)) ↔ NetworkWriting a size old r new

@@ -19,7 +19,7 @@ use Rattle.notation.proofs.OptionLaws.{impossible, same-value, nothing-there}
 use Rattle.address.specs.declared.Address.{Address}
 use Rattle.address.specs.declared.Address.the-variants.{V4}
 use Rattle.address.specs.declared.Refusal.the-variants.{TextTooLong, Malformed}
-use Rattle.address.specs.Answers.{Answer, gives, noAddress, readAnswer}
+use Rattle.address.specs.Answers.{precedence, Answer, gives, noAddress, readAnswer}
 use Rattle.address.proofs.Claims.{gives-one, gives-refuses}
 use Rattle.digits.specs.Numerals.{digitOf}
 use Rattle.loose.specs.Loose.{loosePart, octetsFrom, combined, looseOf, looseAnswer}
@@ -106,7 +106,7 @@ strict-form (of-octets {t} {w} {x} {y} {z} h) =
 module _ (t : List ℕ) where
   form-answer : {a : Address} → length t ≤ 64 → LooseForm t a → looseAnswer t ≡ gives a
   unfolding readAnswer
-  form-answer l g = sym (loose-read t l) ∙ ap (readAnswer noAddress []) (form-reads g)
+  form-answer l g = sym (loose-read t l) ∙ ap (readAnswer precedence noAddress []) (form-reads g)
 
   pub call-answers : {r : Answer Address} → LooseCall t r → looseAnswer t ≡ r
   call-answers (too-long h) = sym (loose-long t h)

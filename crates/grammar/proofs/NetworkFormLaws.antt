@@ -196,7 +196,7 @@ module _ (t old : List ℕ) where
         (rw (network-reads f, e, g), rw (network-reads f, e, g))
 
     module _ (small : size ≤ 32) where
-      stored : (answer (0, 0) (writeRefusal [] ws old) (size, length ws) ≡ networkAnswer t old) × (writeLeaves [] ws old ≡ networkLeaves t old)
+      stored : (answer (0, 0) (writeRefusal 0 ws old) (size, length ws) ≡ networkAnswer t old) × (writeLeaves 0 ws old ≡ networkLeaves t old)
       stored = answer-stored t old short (meant size ws) (network-reads f) small
 
       does-short : length old < length ws → Does (refuses (0, 0) NoRoom) old

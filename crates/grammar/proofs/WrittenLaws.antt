@@ -13,17 +13,18 @@ use Rattle.notation.specs.Pieces.{separated}
 use Rattle.notation.proofs.DigitLaws.{digits-length, digits-below, below-take}
 use Rattle.address.specs.declared.Address.{Address}
 use Rattle.address.specs.declared.Address.the-variants.{V4, V6}
+use Rattle.address.specs.declared.Refusal.the-variants.{LengthTooLarge, WrongFamily}
 use Rattle.address.specs.Addresses.{IsAddress, number}
 use Rattle.address.specs.Answers.{Answer, writeAnswer, writeLeaves}
-use Rattle.address.proofs.AnswerLaws.{write-short, write-fits}
+use Rattle.address.proofs.AnswerLaws.{write-short, write-fits, write-none, write-other}
 use Rattle.octets.specs.Octets.{octets}
 use Rattle.octets.proofs.OctetLaws.{octets-4}
 use Rattle.digits.specs.Numerals.{decimal}
 use Rattle.digits.proofs.NumeralLaws.{decimal-part}
 use Rattle.ipv4_text.proofs.PartLaws.{every-decimal}
 use Rattle.ipv4_text.proofs.DottedLaws.{parts-spelling}
-use Rattle.network.specs.NetworkText.{sizeBytes, cleared, networkText, writeReasons}
-use Rattle.network.proofs.TextLaws.{cleared-high, write-6, write-large, write-sized}
+use Rattle.network.specs.NetworkText.{sizeBytes, cleared, networkText, writeNetworkRefusal}
+use Rattle.network.proofs.TextLaws.{cleared-high, no-reason, write-6, write-large}
 use Rattle.network.proofs.Claims.{cleared-bits, kept-bits, size-zero}
 use Rattle.grammar.specs.NetworkForm.{decimal-parts, a·b·c·d, a·b·c, a·b, only-a, size-part, rounded-up, eighths, bits-cleared, clears, WrittenNetwork, first-bytes, size-0, NetworkWriting, wrong-family, size-above, text-above, written-network}
 use Rattle.grammar.proofs.NumberLaws.{reads-size, size-spelling}
@@ -97,41 +98,46 @@ written-text small (size-0 {v}) = size-zero v small
 module _ (a : Address) (size : ℕ) (old : List ℕ) where
   -- as the writer answers and leaves the buffer
   abbrev Does : Answer ℕ → List ℕ → Type 0
-  Does r new = (writeAnswer (writeReasons a size) (networkText (number a) size) old ≡ r) × (writeLeaves (writeReasons a size) (networkText (number a) size) old ≡ new)
+  Does r new = (writeAnswer (writeNetworkRefusal a size) (networkText (number a) size) old ≡ r) × (writeLeaves (writeNetworkRefusal a size) (networkText (number a) size) old ≡ new)
 
 both : {A B : Type 0} {a b : A} {x y : B} → (a ≡ b) × (x ≡ y) → (b ≡ a) × (y ≡ x)
 both p = (sym (p .0), sym (p .1))
 
 module _ (size : ℕ) (old : List ℕ) where
+  -- with no reason of its own, the call answers and leaves what one that refuses by 3 alone does
+  sized : (v : ℕ) → size ≤ 32 → {r : Answer ℕ} {new : List ℕ} → (r ≡ writeAnswer 0 (networkText v size) old) × (new ≡ writeLeaves 0 (networkText v size) old)
+      → (r ≡ writeAnswer (writeNetworkRefusal (V4 v) size) (networkText v size) old) × (new ≡ writeLeaves (writeNetworkRefusal (V4 v) size) (networkText v size) old)
+  sized v l = write-none (writeNetworkRefusal (V4 v) size) (networkText v size) old (no-reason (V4 v) size .1 (refl, l))
+
   ipv4-does : (v : ℕ) → v < 2 ^ 32 → {r : Answer ℕ} {new : List ℕ} → NetworkWriting (V4 v) size old r new → Does (V4 v) size old r new
   ipv4-does v small (wrong-family e) = absurd (omega arith)
-  ipv4-does v small (size-above e l) = both (write-large size (networkText v size) old v l)
+  ipv4-does v small (size-above e l) = both (write-other (writeNetworkRefusal (V4 v) size) (networkText v size) old LengthTooLarge (write-large v size l))
   ipv4-does v small (text-above {t} e l w m) =
       let is = written-text small w in
-      both (write-sized size (networkText v size) old v l (write-short (networkText v size) old (length t) (ap length is) m))
+      both (sized v l (write-short (networkText v size) old (length t) (ap length is) m))
   ipv4-does v small (written-network {t} e l w m) =
       let is = written-text small w in
-      both (write-sized size (networkText v size) old v l (write-fits (networkText v size) old (length t) (ap length is) m (t ++ drop (length t) old) (ap (λ s. s ++ drop (length t) old) (sym is))))
+      both (sized v l (write-fits (networkText v size) old (length t) (ap length is) m (t ++ drop (length t) old) (ap (λ s. s ++ drop (length t) old) (sym is))))
 
 pub call-does : (a : Address) → IsAddress a → (size : ℕ) (old : List ℕ) → {r : Answer ℕ} {new : List ℕ} → NetworkWriting a size old r new → Does a size old r new
 call-does (V4 v) small size old c = ipv4-does size old v small c
 call-does (V6 hi lo) is size old c = go c
   where
     go : {r : Answer ℕ} {new : List ℕ} → NetworkWriting (V6 hi lo) size old r new → Does (V6 hi lo) size old r new
-    go (wrong-family e) = both (write-6 size (networkText (number (V6 hi lo)) size) old hi lo)
+    go (wrong-family e) = both (write-other (writeNetworkRefusal (V6 hi lo) size) (networkText (number (V6 hi lo)) size) old WrongFamily (write-6 hi lo size))
     go (size-above e l) = absurd (omega arith)
     go (text-above e l w m) = absurd (omega arith)
     go (written-network e l w m) = absurd (omega arith)
 
 pub does-call : (a : Address) → IsAddress a → (size : ℕ) (old : List ℕ)
-    → NetworkWriting a size old (writeAnswer (writeReasons a size) (networkText (number a) size) old) (writeLeaves (writeReasons a size) (networkText (number a) size) old)
+    → NetworkWriting a size old (writeAnswer (writeNetworkRefusal a size) (networkText (number a) size) old) (writeLeaves (writeNetworkRefusal a size) (networkText (number a) size) old)
 does-call a is size old = go a is
   where
     of : (a : Address) → IsAddress a → {r : Answer ℕ} {new : List ℕ} → NetworkWriting a size old r new
-        → NetworkWriting a size old (writeAnswer (writeReasons a size) (networkText (number a) size) old) (writeLeaves (writeReasons a size) (networkText (number a) size) old)
+        → NetworkWriting a size old (writeAnswer (writeNetworkRefusal a size) (networkText (number a) size) old) (writeLeaves (writeNetworkRefusal a size) (networkText (number a) size) old)
     of a is c = let d = call-does a is size old c in subst₂ (NetworkWriting a size old) (sym (d .0)) (sym (d .1)) c
 
-    go : (a : Address) → IsAddress a → NetworkWriting a size old (writeAnswer (writeReasons a size) (networkText (number a) size) old) (writeLeaves (writeReasons a size) (networkText (number a) size) old)
+    go : (a : Address) → IsAddress a → NetworkWriting a size old (writeAnswer (writeNetworkRefusal a size) (networkText (number a) size) old) (writeLeaves (writeNetworkRefusal a size) (networkText (number a) size) old)
     go (V4 v) small = elim (decLe size 32) [
       | yes l ↦
           let w = text-written v size small l in

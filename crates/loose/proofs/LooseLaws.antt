@@ -23,7 +23,7 @@ use Rattle.wide.proofs.Halves.{one-shifted}
 use Rattle.address.specs.declared.Address.{Address}
 use Rattle.address.specs.declared.Address.the-variants.{V4}
 use Rattle.address.specs.declared.Refusal.the-variants.{TextTooLong, Malformed}
-use Rattle.address.specs.Answers.{gives, refuses, noAddress, readAnswer}
+use Rattle.address.specs.Answers.{precedence, gives, refuses, noAddress, readAnswer}
 use Rattle.digits.specs.declared.read.Leading.the-variants.{Number, Nothing}
 use Rattle.digits.specs.Numerals.{atMost}
 use Rattle.digits.proofs.FirstPieceLaws.{at-most-says}
@@ -48,11 +48,11 @@ module _ (v x left : ℕ) where
       let room : 256 ^ (4 - left) * 256 ^ left ≡ 256 ^ 4 = sym (pow-add 256 (4 - left) left) ∙ ap (λ (n : ℕ). 256 ^ n) all in
       omega (arith, digits-lt {q = v} {m = 256 ^ (4 - left)} {r = x} {c = 256 ^ left} k l)
 
-  pub last-refused : 256 ^ left ≤ x → refuses noAddress Malformed ≡ readAnswer noAddress [] (lastPart v x left)
+  pub last-refused : 256 ^ left ≤ x → refuses noAddress Malformed ≡ readAnswer precedence noAddress [] (lastPart v x left)
   unfolding readAnswer
   last-refused h = rw (le-ltb x (256 ^ left) h)
 
-  pub last-read : x < 256 ^ left → gives (V4 (v * 256 ^ left + x)) ≡ readAnswer noAddress [] (lastPart v x left)
+  pub last-read : x < 256 ^ left → gives (V4 (v * 256 ^ left + x)) ≡ readAnswer precedence noAddress [] (lastPart v x left)
   unfolding readAnswer
   last-read h = rw (lt-ltb x (256 ^ left) h)
 
@@ -221,14 +221,14 @@ module _ (t : List ℕ) where
   loose-long h = rw (lt-ltb 64 (length t) h)
 
   module _ (h : length t ≤ 64) where
-    pub loose-read : readAnswer noAddress [] (looseOf t) ≡ looseAnswer t
+    pub loose-read : readAnswer precedence noAddress [] (looseOf t) ≡ looseAnswer t
     unfolding looseAnswer readAnswer
     loose-read = rw (le-ltb 64 (length t) h) (go (looseOf t))
       where
-        go : (o : Option Address) → readAnswer noAddress [] o ≡ readAnswer noAddress ((1, false) ∷ []) o
+        go : (o : Option Address) → readAnswer precedence noAddress [] o ≡ readAnswer precedence noAddress ((1, false) ∷ []) o
         go none = refl
         go (some a) = refl
 
     pub loose-refused : looseOf t ≡ none → refuses noAddress Malformed ≡ looseAnswer t
     unfolding readAnswer
-    loose-refused e = ap (readAnswer noAddress []) (sym e) ∙ loose-read
+    loose-refused e = ap (readAnswer precedence noAddress []) (sym e) ∙ loose-read

@@ -10,7 +10,7 @@ use Rattle.notation.specs.Pieces.{splitOn}
 use Rattle.notation.specs.Options.{every}
 use Rattle.address.specs.declared.Address.{Address}
 use Rattle.address.specs.declared.Address.the-variants.{V4}
-use Rattle.address.specs.Answers.{Answer, readAnswer, noAddress}
+use Rattle.address.specs.Answers.{precedence, Answer, readAnswer, noAddress}
 use Rattle.digits.specs.Numerals.{hexMarked, textNumber}
 
 -- the digit 0 comes first
@@ -55,4 +55,4 @@ looseOf t = Option·map (λ bs. V4 (numberOf 256 bs)) (combined (every loosePart
 -- what reading answers: "the text is longer than 64 bytes", or the address
 unfoldable pub looseAnswer : List ℕ → Answer Address
 unfolding looseOf readAnswer
-looseAnswer t = readAnswer noAddress ((1, ltb 64 (length t)) ∷ []) (looseOf t)
+looseAnswer t = readAnswer precedence noAddress ((1, ltb 64 (length t)) ∷ []) (looseOf t)

@@ -5,7 +5,7 @@ ghost use mathlib.Core.List.{[]};
 ghost use mathlib.Core.Option.{some, none};
 ghost use Prim.Native.Nat.{_+_, _-_, _*_, _^_, _≤_, _<_};
 ghost use lib.Dec.{ltb};
-ghost use Rattle.address.specs.Answers.{noAddress, readingAnswer, readAnswer};
+ghost use Rattle.address.specs.Answers.{precedence, noAddress, readingAnswer, readAnswer};
 ghost use Rattle.address.specs.declared.Address.the-variants.{V4};
 ghost use Rattle.loose.specs.Inner.{leadingLoose};
 ghost use Rattle.loose.specs.Loose.{baseOf, markOf, looseAnswer};
@@ -50,7 +50,7 @@ fn leading_loose(text: &[u8]) -> Leading
 // The address of octets that write `value` and a last part, which fills the octets that are left.
 fn last_part(value: u32, part: u32, left: u32) -> Reading
     requires { ⌜ (left ≤ 4) × (value < 256 ^ (4 - left)) ⌝ }
-    ensures { λ r. ⌜ readingAnswer r ≡ readAnswer noAddress [] (cond (ltb part (256 ^ left)) (some (V4 (value * 256 ^ left + part))) none) ⌝ }
+    ensures { λ r. ⌜ readingAnswer r ≡ readAnswer precedence noAddress [] (cond (ltb part (256 ^ left)) (some (V4 (value * 256 ^ left + part))) none) ⌝ }
 {
     let room = 1u64 << (8 * left);
     if room <= (part as u64) {

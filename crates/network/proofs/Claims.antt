@@ -12,13 +12,13 @@ use Rattle.notation.specs.BigEndian.{digitsOf}
 use Rattle.address.specs.declared.Address.{Address}
 use Rattle.address.specs.declared.Address.the-variants.{V4}
 use Rattle.address.specs.Addresses.{number}
-use Rattle.address.specs.Answers.{refusal, gives, writeAnswer, writeLeaves}
+use Rattle.address.specs.Answers.{gives, writeAnswer, writeLeaves}
 use Rattle.address.proofs.AnswerLaws.{read-held, good-no-reason}
 use Rattle.address.proofs.Claims.{Cases, given, not-given, one-answer}
 use Rattle.octets.specs.Octets.{octets}
 use Rattle.digits.specs.Numerals.{numeral}
 use Rattle.network.specs.GivenBytes.{zeroFilled}
-use Rattle.network.specs.NetworkText.{sizeBytes, cleared, networkText, writeReasons}
+use Rattle.network.specs.NetworkText.{sizeBytes, cleared, networkText, writeNetworkRefusal}
 use Rattle.network.specs.Network.{Network, networkOf, networkAnswer, networkLeaves, networkReadingAnswer}
 use Rattle.network.specs.declared.NetworkReading.{NetworkReading}
 use Rattle.network.specs.declared.NetworkReading.the-variants.{Read, Refused}
@@ -60,24 +60,24 @@ read-back-answer = written-answer
 -- The same of what the caller holds. The bytes that the writer's buffer holds after a good call, as many as it says, are read into any
 -- buffer of four bytes; the answer is the size and a count, and as many bytes as it counts, "filled with zeros to four, are the cleared
 -- address". "later bytes stay."
-pub written-read-back : (a : Address) (size : ℕ) (old : List ℕ) (n : ℕ) → writeAnswer (writeReasons a size) (networkText (number a) size) old ≡ gives n
+pub written-read-back : (a : Address) (size : ℕ) (old : List ℕ) (n : ℕ) → writeAnswer (writeNetworkRefusal a size) (networkText (number a) size) old ≡ gives n
     → (buf : List ℕ) → 4 ≤ length buf
-    → let text = take n (writeLeaves (writeReasons a size) (networkText (number a) size) old) in
+    → let text = take n (writeLeaves (writeNetworkRefusal a size) (networkText (number a) size) old) in
     let count = max 1 (sizeBytes size) in
     (networkAnswer text buf ≡ gives (size, count))
     × (zeroFilled 4 (take count (networkLeaves text buf)) ≡ octets (V4 (cleared 32 size (number a))))
     × (drop count (networkLeaves text buf) ≡ drop count buf)
-unfolding refusal octets
+unfolding octets
 written-read-back a size old n e buf room =
-    let reasons = writeReasons a size in
+    let refused = writeNetworkRefusal a size in
     let v = number a in
     let text = networkText v size in
     let count = max 1 (sizeBytes size) in
-    let small = no-reason a size .0 (good-no-reason reasons text old refl n e) .1 in
+    let small = no-reason a size .0 (good-no-reason refused text old n e) .1 in
     let back = written-answer v size buf small (omega arith) in
-    let left = read-held reasons text old (λ t. networkLeaves t buf) (back .1) n e in
+    let left = read-held refused text old (λ t. networkLeaves t buf) (back .1) n e in
     let l = written-length v size small in (
-      read-held reasons text old (λ t. networkAnswer t buf) (back .0) n e,
+      read-held refused text old (λ t. networkAnswer t buf) (back .0) n e,
       ap (λ bs. zeroFilled 4 bs) (ap (take count) left ∙ take-at (written v size .bytes) (drop count buf) count l) ∙ written-filled v size small,
       ap (drop count) left ∙ drop-at (written v size .bytes) (drop count buf) count l,
     )

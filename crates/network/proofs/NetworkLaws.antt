@@ -184,7 +184,7 @@ module _ (t old : List ℕ) where
           (rw (h, e, f), rw (h, e, f))
 
       pub answer-stored : n .size ≤ 32
-          → (answer (0, 0) (writeRefusal [] (n .bytes) old) (n .size, length (n .bytes)) ≡ networkAnswer t old) × (writeLeaves [] (n .bytes) old ≡ networkLeaves t old)
+          → (answer (0, 0) (writeRefusal 0 (n .bytes) old) (n .size, length (n .bytes)) ≡ networkAnswer t old) × (writeLeaves 0 (n .bytes) old ≡ networkLeaves t old)
       unfolding networkAnswer networkLeaves
       answer-stored l =
           let e = le-ltb 64 (length t) short in
@@ -207,8 +207,8 @@ module _ (t : List ℕ) (s : ℕ) (at : s ≡ indexOf 47 t) (old : List ℕ) (sh
     -- as `store_network` answers it
     abbrev Stored : ℕ → Answer (ℕ × ℕ) → List ℕ → Type 0
     Stored size r new =
-        (r ≡ answer (0, 0) (writeRefusal [] (take (max n (sizeBytes size)) (digitsOf 256 4 v)) old) (size, max n (sizeBytes size)))
-        × (new ≡ writeLeaves [] (take (max n (sizeBytes size)) (digitsOf 256 4 v)) old)
+        (r ≡ answer (0, 0) (writeRefusal 0 (take (max n (sizeBytes size)) (digitsOf 256 4 v)) old) (size, max n (sizeBytes size)))
+        × (new ≡ writeLeaves 0 (take (max n (sizeBytes size)) (digitsOf 256 4 v)) old)
 
     network-stored : (size : ℕ) → networkOf t ≡ some (completed size (given t s at v n h)) → size ≤ 32 → (r : Answer (ℕ × ℕ)) (new : List ℕ) → Stored size r new → (r ≡ networkAnswer t old) × (new ≡ networkLeaves t old)
     unfolding completed
@@ -216,7 +216,7 @@ module _ (t : List ℕ) (s : ℕ) (at : s ≡ indexOf 47 t) (old : List ℕ) (sh
         let bytes = network-bytes t s at v n h size most in
         let count = network-length t s at v n h size in
         let a = answer-stored t old short (completed size (given t s at v n h)) e most in
-        (p .0 ∙ ap₂ (λ bs k. answer (0, 0) (writeRefusal [] bs old) (size, k)) (sym bytes) (sym count) ∙ a .0, p .1 ∙ ap (λ bs. writeLeaves [] bs old) (sym bytes) ∙ a .1)
+        (p .0 ∙ ap₂ (λ bs k. answer (0, 0) (writeRefusal 0 bs old) (size, k)) (sym bytes) (sym count) ∙ a .0, p .1 ∙ ap (λ bs. writeLeaves 0 bs old) (sym bytes) ∙ a .1)
 
     pub inferred-stored : (k size : ℕ) → k ≡ classSize (v / 16777216) → size ≡ widened n k → length t ≤ s → (r : Answer (ℕ × ℕ)) (new : List ℕ) → Stored size r new → (r ≡ networkAnswer t old) × (new ≡ networkLeaves t old)
     inferred-stored k size e f l = network-stored size (network-inferred t s at v n h k size e f l) (inferred-most n (v / 16777216) k size (given-count t s at v n h) e f)
@@ -232,7 +232,7 @@ module _ (t : List ℕ) (s : ℕ) (at : s ≡ indexOf 47 t) (old : List ℕ) (sh
 -- ---- what is stored
 
 -- four octets fill an array of four
-pub octets-stored : (v : ℕ) (old new : List ℕ) → length old ≡ 4 → new ≡ writeLeaves [] (octets (V4 v)) old → new ≡ digitsOf 256 4 v
+pub octets-stored : (v : ℕ) (old new : List ℕ) → length old ≡ 4 → new ≡ writeLeaves 0 (octets (V4 v)) old → new ≡ digitsOf 256 4 v
 octets-stored v old new l e =
     let fits = write-fits (octets (V4 v)) old 4 (octets-length (V4 v)) (omega arith) (octets (V4 v) ++ drop 4 old) refl in
     e ∙ sym (fits .1) ∙ ap (λ r. octets (V4 v) ++ r) (drop-of-length-le old {i = 4} (omega arith)) ∙ append-nil (octets (V4 v)) ∙ octets-4 v
@@ -243,9 +243,9 @@ octets-front n v h = length-take-le n (digitsOf 256 4 v) (omega (arith, digits-l
 -- the same answer with the size before the number of bytes
 module _ (size n : ℕ) (bytes old : List ℕ) (long : length bytes ≡ n) where
   abbrev refused : ℕ
-  refused = writeRefusal [] bytes old
+  refused = writeRefusal 0 bytes old
 
-  pub store-wrote : (w : ℕ) → gives w ≡ writeAnswer [] bytes old → gives {A = ℕ × ℕ} (size, w) ≡ answer (0, 0) (writeRefusal [] bytes old) (size, n)
+  pub store-wrote : (w : ℕ) → gives w ≡ writeAnswer 0 bytes old → gives {A = ℕ × ℕ} (size, w) ≡ answer (0, 0) (writeRefusal 0 bytes old) (size, n)
   unfolding writeAnswer
   store-wrote w e =
       let number : 0 ≡ refused = ap (λ a. a .number) e in
@@ -254,7 +254,7 @@ module _ (size n : ℕ) (bytes old : List ℕ) (long : length bytes ≡ n) where
       let fields : _≡_ {A = ℕ × ℕ} (size, w) (cond (eqb refused 0) (size, n) (0, 0)) = ap (λ (k : ℕ). (size, k)) count ∙ sym (ap (λ b. cond b (size, n) (0, 0)) test) in
       λ i. record { number = number i; fields = fields i }
 
-  pub store-refused : (r : Refusal) → refuses 0 r ≡ writeAnswer [] bytes old → refuses {A = ℕ × ℕ} (0, 0) r ≡ answer (0, 0) (writeRefusal [] bytes old) (size, n)
+  pub store-refused : (r : Refusal) → refuses 0 r ≡ writeAnswer 0 bytes old → refuses {A = ℕ × ℕ} (0, 0) r ≡ answer (0, 0) (writeRefusal 0 bytes old) (size, n)
   unfolding writeAnswer
   store-refused r e =
       let number : refusalNumber r ≡ refused = ap (λ a. a .number) e in

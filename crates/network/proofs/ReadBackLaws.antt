@@ -15,7 +15,7 @@ use Rattle.notation.specs.BigEndian.{AllBelow, digitsOf}
 use Rattle.notation.specs.Pieces.{separated, Lacks}
 use Rattle.notation.proofs.DigitLaws.{digits-length, digits-below, below-take, digits-split, digits-zero, bits-power}
 use Rattle.notation.proofs.SeparatedLaws.{seam}
-use Rattle.address.specs.Answers.{gives, refusal, writeLeaves}
+use Rattle.address.specs.Answers.{gives, writeLeaves}
 use Rattle.digits.specs.Numerals.{digitOf, decimal, partOf}
 use Rattle.digits.proofs.NumeralLaws.{decimal-part}
 use Rattle.digits.proofs.MarkLaws.{not-marked}
@@ -106,7 +106,7 @@ module _ (v size : ℕ) where
 
 network-gives : (t old : List ℕ) (n : Network) (k : ℕ) → networkOf t ≡ some n → length (n .bytes) ≡ k → length t ≤ 64 → n .size ≤ 32 → k ≤ length old
     → (networkAnswer t old ≡ gives (n .size, k)) × (networkLeaves t old ≡ n .bytes ++ drop k old)
-unfolding refusal writeLeaves
+unfolding writeLeaves
 network-gives t old n k e l short small room =
     let a = answer-stored t old short n e small in
     let fits = le-ltb (length old) k room in

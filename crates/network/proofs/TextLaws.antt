@@ -19,11 +19,11 @@ use Rattle.address.specs.declared.Address.{Address}
 use Rattle.address.specs.declared.Address.the-variants.{V4, V6}
 use Rattle.address.specs.declared.Refusal.the-variants.{LengthTooLarge, WrongFamily}
 use Rattle.address.specs.Addresses.{family}
-use Rattle.address.specs.Answers.{Answer, refusal, refuses, writeAnswer, writeLeaves}
+use Rattle.address.specs.Answers.{refusalNumber}
 use Rattle.digits.specs.Numerals.{decimal}
 use Rattle.digits.proofs.SeparatedNumeralLaws.{numerals-most}
 use Rattle.output.proofs.WriteLaws.{decimal-written}
-use Rattle.network.specs.NetworkText.{sizeBytes, cleared, networkText, writeReasons}
+use Rattle.network.specs.NetworkText.{sizeBytes, cleared, networkText, writeNetworkRefusal}
 
 -- ---- bits beyond the size cleared
 
@@ -114,29 +114,21 @@ text-most v size h =
 
 -- ---- refusals
 
-module _ (size : ℕ) (bytes old : List ℕ) where
-  pub write-6 : (hi lo : ℕ) → (refuses 0 WrongFamily ≡ writeAnswer (writeReasons (V6 hi lo) size) bytes old) × (old ≡ writeLeaves (writeReasons (V6 hi lo) size) bytes old)
-  unfolding writeAnswer writeLeaves
-  write-6 hi lo = (refl, refl)
-
-  module _ (v : ℕ) where
-    pub write-large : 32 < size → (refuses 0 LengthTooLarge ≡ writeAnswer (writeReasons (V4 v) size) bytes old) × (old ≡ writeLeaves (writeReasons (V4 v) size) bytes old)
-    unfolding writeAnswer writeLeaves
-    write-large h = (rw (lt-ltb 32 size h), rw (lt-ltb 32 size h))
-
-    -- with no reason of its own, a call answers and leaves what one that refuses by 3 alone does
-    pub write-sized : size ≤ 32 → {r : Answer ℕ} {new : List ℕ} → (r ≡ writeAnswer [] bytes old) × (new ≡ writeLeaves [] bytes old)
-        → (r ≡ writeAnswer (writeReasons (V4 v) size) bytes old) × (new ≡ writeLeaves (writeReasons (V4 v) size) bytes old)
-    unfolding writeAnswer writeLeaves
-    write-sized h w = (rw (le-ltb 32 size h) (w .0), rw (le-ltb 32 size h) (w .1))
-
--- where neither holds of an IPv4 address
+-- where an IPv4 address is refused for nothing
 none-0 : (p : Bool) → cond {A = ℕ} p 4 0 ≡ 0 → p ≡ false
 none-0 true e = absurd (omega arith)
 none-0 false e = refl
 
 -- nothing but the room is against an IPv4 address and a size up to 32, and against no other
-pub no-reason : (a : Address) (size : ℕ) → (refusal (writeReasons a size) ≡ 0) ↔ ((family a ≡ 4) × (size ≤ 32))
-unfolding refusal
+pub no-reason : (a : Address) (size : ℕ) → (writeNetworkRefusal a size ≡ 0) ↔ ((family a ≡ 4) × (size ≤ 32))
+unfolding writeNetworkRefusal
 no-reason (V4 v) size = (λ e. (refl, ltb-false 32 size (none-0 (ltb 32 size) e)), λ p. rw (le-ltb 32 size (p .1)))
 no-reason (V6 hi lo) size = (λ e. absurd (omega arith), λ p. absurd (omega arith))
+
+pub write-6 : (hi lo size : ℕ) → refusalNumber WrongFamily ≡ writeNetworkRefusal (V6 hi lo) size
+unfolding writeNetworkRefusal
+write-6 hi lo size = refl
+
+pub write-large : (v size : ℕ) → 32 < size → refusalNumber LengthTooLarge ≡ writeNetworkRefusal (V4 v) size
+unfolding writeNetworkRefusal
+write-large v size h = rw (lt-ltb 32 size h)

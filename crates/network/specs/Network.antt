@@ -1,12 +1,12 @@
 -- The network form, read (01, "Network form"; document 000). A text is the list of its bytes. Assumes nothing.
-use mathlib.Core.Bool.{Bool, cond, _&&_}
+use mathlib.Core.Bool.{cond, _&&_}
 use mathlib.Core.List.{List, [], _∷_}
 use mathlib.Core.Option.{Option, some, none, Option·map, Option·getD}
 use Prim.Native.Nat.{ℕ, suc, _*_, max}
 use lib.Dec.{leb, ltb}
 use lib.ListN.{length, drop, getD}
 use Rattle.notation.specs.Pieces.{contains, indexOf}
-use Rattle.address.specs.Answers.{Answer, answer, gives, refuses, missing, refusal, writeRefusal, writeLeaves}
+use Rattle.address.specs.Answers.{Answer, answer, gives, refuses, missing, precedence, refusal, writeRefusal, writeLeaves}
 use Rattle.digits.specs.Numerals.{partOf}
 use Rattle.network.specs.GivenBytes.{givenOf, zeroFilled, beforeSlash}
 use Rattle.network.specs.NetworkText.{sizeBytes}
@@ -59,20 +59,21 @@ abbrev pub noNetwork : Network
 noNetwork = record { size = 0; bytes = [] }
 
 -- "the text is longer than 64 bytes", "not of the form asked for", "Above 32 is refusal 4"
-abbrev pub readReasons : List ℕ → Option Network → List (ℕ × Bool)
-readReasons t o = (1, ltb 64 (length t)) ∷ (2, missing o) ∷ (4, ltb 32 (Option·getD o noNetwork .size)) ∷ []
+unfoldable pub readNetworkRefusal : List ℕ → Option Network → ℕ
+unfolding refusal
+readNetworkRefusal t o = refusal precedence ((1, ltb 64 (length t)) ∷ (2, missing o) ∷ (4, ltb 32 (Option·getD o noNetwork .size)) ∷ [])
 
 -- "The answer is the size and the number of bytes written."
 unfoldable pub networkAnswer : List ℕ → List ℕ → Answer (ℕ × ℕ)
-unfolding refusal networkOf
+unfolding readNetworkRefusal networkOf
 networkAnswer t old =
     let n = Option·getD (networkOf t) noNetwork in
-    answer (0, 0) (writeRefusal (readReasons t (networkOf t)) (n .bytes) old) (n .size, length (n .bytes))
+    answer (0, 0) (writeRefusal (readNetworkRefusal t (networkOf t)) (n .bytes) old) (n .size, length (n .bytes))
 
 -- and what the call leaves in the buffer
 unfoldable pub networkLeaves : List ℕ → List ℕ → List ℕ
-unfolding writeLeaves networkOf
-networkLeaves t old = writeLeaves (readReasons t (networkOf t)) (Option·getD (networkOf t) noNetwork .bytes) old
+unfolding readNetworkRefusal writeLeaves networkOf
+networkLeaves t old = writeLeaves (readNetworkRefusal t (networkOf t)) (Option·getD (networkOf t) noNetwork .bytes) old
 
 -- the code's answer in the paper's terms
 abbrev pub networkReadingAnswer : NetworkReading → Answer (ℕ × ℕ)

@@ -1,5 +1,4 @@
 -- The network form, written (01, "Network form"; document 000). A text is the list of its bytes. Assumes nothing.
-use mathlib.Core.Bool.{Bool}
 use mathlib.Core.List.{List, [], _∷_, _++_, map}
 use Prim.Native.Nat.{ℕ, _+_, _-_, _/_, _%_, _^_, max}
 use lib.Dec.{ltb, eqb}
@@ -8,6 +7,7 @@ use Rattle.notation.specs.BigEndian.{digitsOf}
 use Rattle.notation.specs.Pieces.{separated}
 use Rattle.address.specs.declared.Address.{Address}
 use Rattle.address.specs.Addresses.{family}
+use Rattle.address.specs.Answers.{precedence, refusal}
 use Rattle.digits.specs.Numerals.{decimal}
 
 -- "the size divided by eight, rounded up"
@@ -24,5 +24,6 @@ unfolding cleared digitsOf separated
 networkText v size = separated 46 (map decimal (take (max 1 (sizeBytes size)) (digitsOf 256 4 (cleared 32 size v)))) ++ 47 ∷ decimal size
 
 -- "an IPv6 address is handed to [...] the network writer", "a length or bit count is above 32"
-abbrev pub writeReasons : Address → ℕ → List (ℕ × Bool)
-writeReasons a size = (9, eqb (family a) 6) ∷ (4, ltb 32 size) ∷ []
+unfoldable pub writeNetworkRefusal : Address → ℕ → ℕ
+unfolding refusal
+writeNetworkRefusal a size = refusal precedence ((9, eqb (family a) 6) ∷ (4, ltb 32 size) ∷ [])

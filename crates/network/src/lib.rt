@@ -9,7 +9,7 @@ ghost use Rattle.address.specs.Answers.{answer, writeRefusal, writeLeaves, writ
 ghost use Rattle.address.specs.Addresses.{number};
 ghost use Rattle.digits.specs.Numerals.{decimal};
 ghost use Rattle.output.specs.Placing.{Puts};
-ghost use Rattle.network.specs.NetworkText.{sizeBytes, cleared, networkText, writeReasons};
+ghost use Rattle.network.specs.NetworkText.{sizeBytes, cleared, networkText, writeNetworkRefusal};
 ghost use Rattle.network.specs.Network.{classSize, widened, networkReadingAnswer, networkAnswer, networkLeaves};
 use address::Address;
 use address::Refusal;
@@ -67,7 +67,7 @@ fn larger(a: usize, b: usize) -> usize
 // Stores the bytes given, and zeros behind them as far as the size goes.
 fn store_network(value: u32, count: usize, size: u8, out: &mut [u8]) -> NetworkReading
     requires { ⌜ (count ≤ 4) × (size ≤ 32) ⌝ }
-    ensures { λ r. ⌜ (networkReadingAnswer r ≡ answer (0, 0) (writeRefusal [] (take (max count (sizeBytes size)) (digitsOf 256 4 value)) (now (out .entry))) (size, max count (sizeBytes size))) × (now (out .exit) ≡ writeLeaves [] (take (max count (sizeBytes size)) (digitsOf 256 4 value)) (now (out .entry))) ⌝ }
+    ensures { λ r. ⌜ (networkReadingAnswer r ≡ answer (0, 0) (writeRefusal 0 (take (max count (sizeBytes size)) (digitsOf 256 4 value)) (now (out .entry))) (size, max count (sizeBytes size))) × (now (out .exit) ≡ writeLeaves 0 (take (max count (sizeBytes size)) (digitsOf 256 4 value)) (now (out .entry))) ⌝ }
 {
     let mut octets = [0u8; 4];
     write_octets(Address::V4(value), &mut octets);
@@ -139,7 +139,7 @@ fn put_network(text: &mut [u8], v: u32, size: u8) -> usize
 
 // Writes the network text of an IPv4 address and a size to the start of `out`, where there is room for it.
 pub fn write_network(address: Address, size: u8, out: &mut [u8]) -> Writing
-    ensures { λ r. ⌜ (writingAnswer r ≡ writeAnswer (writeReasons address size) (networkText (number address) size) (now (out .entry))) × (now (out .exit) ≡ writeLeaves (writeReasons address size) (networkText (number address) size) (now (out .entry))) ⌝ }
+    ensures { λ r. ⌜ (writingAnswer r ≡ writeAnswer (writeNetworkRefusal address size) (networkText (number address) size) (now (out .entry))) × (now (out .exit) ≡ writeLeaves (writeNetworkRefusal address size) (networkText (number address) size) (now (out .entry))) ⌝ }
 {
     let Address::V4(v) = address else {
         return Writing::Refused(Refusal::WrongFamily);

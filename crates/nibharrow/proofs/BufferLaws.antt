@@ -1,7 +1,7 @@
 -- What is asked of a lent buffer, of each kind of call. Assumes nothing.
 use mathlib.Core.Path.{_≡_, refl, sym, ap, subst}
 use mathlib.Core.Bool.{Bool, true, false, cond}
-use mathlib.Core.List.{List, [], _++_}
+use mathlib.Core.List.{List, _++_}
 use Prim.Native.Nat.{ℕ, _+_, _≤_}
 use native.Mathlib.Omega.{arith}
 use borrow.Author.Tests.{ne-eqb}
@@ -41,14 +41,14 @@ module _ {A : Type 0} (zeros : A) (count : A → ℕ) (old : List ℕ) where
       go false = record { refused = λ h. (refl, refl); kept = refl }
 
 module _ (old : List ℕ) where
-  pub written : (reasons : List (ℕ × Bool)) (bytes : List ℕ) → Wrote old (writes reasons bytes old)
+  pub written : (refused : ℕ) (bytes : List ℕ) → Wrote old (writes refused bytes old)
   unfolding writeAnswer writeLeaves
-  written reasons bytes = judged 0 (λ n. n) old _ (length bytes) bytes refl
+  written refused bytes = judged 0 (λ n. n) old _ (length bytes) bytes refl
 
   -- a number beside what a writer answers
-  pub beside : (n : ℕ) (reasons : List (ℕ × Bool)) (bytes : List ℕ) → Answered old (outcome (besides n (writeAnswer reasons bytes old)) (writeLeaves reasons bytes old))
+  pub beside : (n : ℕ) (refused : ℕ) (bytes : List ℕ) → Answered old (outcome (besides n (writeAnswer refused bytes old)) (writeLeaves refused bytes old))
   unfolding writeAnswer writeLeaves
-  beside n reasons bytes = go (writeRefusal reasons bytes old)
+  beside n refused bytes = go (writeRefusal refused bytes old)
     where
       go : (m : ℕ) → Answered old (outcome (besides n (answer 0 m (length bytes))) (cond (eqb m 0) (bytes ++ drop (length bytes) old) old))
       go m = record { refused = λ h. rw (ne-eqb m 0 (omega arith)) (refl, refl); kept = pick (eqb m 0) }
@@ -61,15 +61,15 @@ module _ (old : List ℕ) where
 
 -- bytes with room for them
 module _ (bytes old : List ℕ) (room : length bytes ≤ length old) where
-  pub writes-filled : Filled (length bytes) bytes old (writes [] bytes old)
+  pub writes-filled : Filled (length bytes) bytes old (writes 0 bytes old)
   unfolding refusal
   writes-filled =
-      let good = write-good [] bytes old refl room in
-      let w = written-held [] bytes old (length bytes) good in
+      let good = write-good 0 bytes old refl room in
+      let w = written-held 0 bytes old (length bytes) good in
       record { answered = good; held = w .0; kept = w .3 }
 
   -- with a number beside them
-  pub beside-filled : (n : ℕ) → Filled (n, length bytes) bytes old (outcome (besides n (writeAnswer [] bytes old)) (writeLeaves [] bytes old))
+  pub beside-filled : (n : ℕ) → Filled (n, length bytes) bytes old (outcome (besides n (writeAnswer 0 bytes old)) (writeLeaves 0 bytes old))
   beside-filled n = let w = writes-filled in record { answered = ap (besides n) (w .answered); held = w .held; kept = w .kept }
 
   -- and an address that is given
@@ -78,20 +78,20 @@ module _ (bytes old : List ℕ) (room : length bytes ≤ length old) where
   into-filled x a e f = rw (e, f) writes-filled
 
 -- bytes of which a writer refuses nothing
-pub good-filled : {A : Type 0} (fields : A) (reasons : List (ℕ × Bool)) (bytes old : List ℕ) → writeAnswer reasons bytes old .number ≡ 0 → (x : Answer A) → x ≡ gives fields
-    → Filled fields bytes old (outcome x (writeLeaves reasons bytes old))
-good-filled fields reasons bytes old good x e =
-    let w = written-held reasons bytes old (length bytes) (good-writes reasons bytes old good) in
+pub good-filled : {A : Type 0} (fields : A) (refused : ℕ) (bytes old : List ℕ) → writeAnswer refused bytes old .number ≡ 0 → (x : Answer A) → x ≡ gives fields
+    → Filled fields bytes old (outcome x (writeLeaves refused bytes old))
+good-filled fields refused bytes old good x e =
+    let w = written-held refused bytes old (length bytes) (good-writes refused bytes old good) in
     record { answered = e; held = w .0; kept = w .3 }
 
 -- a text that is written of an address
-module _ (old : List ℕ) (x : Answer Address) (reasons : Address → List (ℕ × Bool)) (text : Address → List ℕ) where
+module _ (old : List ℕ) (x : Answer Address) (refused : Address → ℕ) (text : Address → List ℕ) where
   abbrev texts : Outcome ℕ
-  texts = andThen 0 old x (λ a. writes (reasons a) (text a) old)
+  texts = andThen 0 old x (λ a. writes (refused a) (text a) old)
 
   pub text-held : texts .answers .number ≡ 0 → (a : Address) × (x ≡ gives a) × Filled (length (text a)) (text a) old texts
   text-held good =
       let a = x .fields in
-      let (is, on, wrote) = number-went-on 0 old x (λ a. writes (reasons a) (text a) old) good in
-      let filled = good-filled _ (reasons a) (text a) old wrote _ (good-writes (reasons a) (text a) old wrote) in
+      let (is, on, wrote) = number-went-on 0 old x (λ a. writes (refused a) (text a) old) good in
+      let filled = good-filled _ (refused a) (text a) old wrote _ (good-writes (refused a) (text a) old wrote) in
       (a, is, subst (Filled _ (text a) old) (sym on) filled)

@@ -14,7 +14,7 @@ use Rattle.address.specs.declared.Refusal.{Refusal}
 use Rattle.address.specs.declared.Refusal.the-variants.{Malformed, NoRoom, NoClass}
 use Rattle.address.specs.Addresses.{IsAddress, family, width, number}
 use Rattle.address.specs.Answers.{Answer, gives, refuses, noAddress, noBlock, writeAnswer, writeLeaves}
-use Rattle.address.specs.Blocks.{blockReasons}
+use Rattle.address.specs.Blocks.{blockRefusal}
 use Rattle.address.proofs.AnswerLaws.{number-pos, write-short, write-fits}
 use Rattle.address.proofs.Claims.{written-held}
 use Rattle.octets.specs.Octets.{octets, octetsAnswer}
@@ -25,8 +25,8 @@ use Rattle.normal.specs.Normal.{normalText}
 use Rattle.normal.proofs.Claims.{read-back-answer}
 use Rattle.normal.proofs.Claims as normal
 use Rattle.network.specs.GivenBytes.{zeroFilled}
-use Rattle.network.specs.NetworkText.{sizeBytes, cleared, networkText, writeReasons}
-use Rattle.network.specs.Network.{Network, networkOf, noNetwork, readReasons, networkAnswer, networkLeaves}
+use Rattle.network.specs.NetworkText.{sizeBytes, cleared, networkText, writeNetworkRefusal}
+use Rattle.network.specs.Network.{Network, networkOf, noNetwork, readNetworkRefusal, networkAnswer, networkLeaves}
 use Rattle.network.proofs.Claims as network
 use Rattle.classes.specs.Classes.{splitAnswer, joinAnswer}
 use Rattle.classes.proofs.Claims as classes
@@ -34,7 +34,7 @@ use Rattle.blocks.specs.BlockText.{blockTextAnswer, blockText}
 use Rattle.blocks.proofs.Claims as blocks
 use Rattle.records.specs.Records.{recordSize, recordsOf, readRecords}
 use Rattle.ranges.specs.Ranges.{rangeRecords, rangeAnswer, rangeLeaves}
-use Rattle.words.specs.Words.{wordsText, wordsReasons}
+use Rattle.words.specs.Words.{wordsText, wordsRefusal}
 use Rattle.words.proofs.Claims as words
 use Rattle.c_answers.specs.CAnswers.{besides}
 use Rattle.nibharrow.specs.Interface.{Outcome, outcome, whenGiven, writes, addressInto, addressWritten, networkInto, networkWrites, networkWritten, octetsSplit, blockInto, blockWrites, blockWritten, rangeTo, rangeInto, wordsInto}
@@ -65,7 +65,7 @@ module _ (old : List ℕ) where
 
   pub block-into : (t : List ℕ) → Answered old (blockInto t old)
   unfolding blockInto
-  block-into t = after (0, 0) (λ r. r .1) old _ _ (λ b. beside old (b .length) [] (octets (b .address)))
+  block-into t = after (0, 0) (λ r. r .1) old _ _ (λ b. beside old (b .length) 0 (octets (b .address)))
 
   pub block-written : (bytes : List ℕ) (n : ℕ) → Wrote old (blockWritten bytes n old)
   unfolding blockWritten
@@ -98,7 +98,7 @@ refusal-stands e old = (
 -- Where it stands on a value, it answers and leaves what the call inside it answers and leaves: with an address, a network or a block that is
 -- read,
 module _ (old : List ℕ) where
-  pub address-put : (x : Answer Address) (a : Address) → x ≡ gives a → addressInto x old ≡ outcome (writeAnswer [] (octets a) old) (writeLeaves [] (octets a) old)
+  pub address-put : (x : Answer Address) (a : Address) → x ≡ gives a → addressInto x old ≡ outcome (writeAnswer 0 (octets a) old) (writeLeaves 0 (octets a) old)
   unfolding addressInto
   address-put x a is = sym (when-given _ _ x a (sym is))
 
@@ -107,7 +107,7 @@ module _ (old : List ℕ) where
   network-put t = refl
 
   pub block-put : (t : List ℕ) (b : Block) → blockTextAnswer t ≡ gives b
-      → let bytes = octets (b .address) in blockInto t old ≡ outcome (besides (b .length) (writeAnswer [] bytes old)) (writeLeaves [] bytes old)
+      → let bytes = octets (b .address) in blockInto t old ≡ outcome (besides (b .length) (writeAnswer 0 bytes old)) (writeLeaves 0 bytes old)
   unfolding blockInto
   block-put t b is = sym (when-given _ _ (blockTextAnswer t) b (sym is))
 
@@ -135,18 +135,18 @@ module _ (old : List ℕ) where
 
 -- and with octets that are an address.
 module _ (bytes old : List ℕ) (a : Address) (is : octetsAnswer bytes ≡ gives a) where
-  pub address-taken : addressWritten bytes old ≡ outcome (writeAnswer [] (normalText a) old) (writeLeaves [] (normalText a) old)
+  pub address-taken : addressWritten bytes old ≡ outcome (writeAnswer 0 (normalText a) old) (writeLeaves 0 (normalText a) old)
   unfolding addressWritten
   address-taken = sym (when-given _ _ (octetsAnswer bytes) a (sym is))
 
   pub network-taken : (size : ℕ)
-      → let text = networkText (number a) size in networkWritten bytes size old ≡ outcome (writeAnswer (writeReasons a size) text old) (writeLeaves (writeReasons a size) text old)
+      → let text = networkText (number a) size in networkWritten bytes size old ≡ outcome (writeAnswer (writeNetworkRefusal a size) text old) (writeLeaves (writeNetworkRefusal a size) text old)
   unfolding networkWritten
   network-taken size = sym (when-given _ _ (octetsAnswer bytes) a (sym is))
 
   pub block-taken : (len : ℕ)
       → let b : Block = record { address = a; length = len } in
-      blockWritten bytes len old ≡ outcome (writeAnswer (blockReasons b) (blockText b) old) (writeLeaves (blockReasons b) (blockText b) old)
+      blockWritten bytes len old ≡ outcome (writeAnswer (blockRefusal b) (blockText b) old) (writeLeaves (blockRefusal b) (blockText b) old)
   unfolding blockWritten
   block-taken len = sym (when-given _ _ (octetsAnswer bytes) a (sym is))
 
@@ -157,9 +157,9 @@ module _ (bytes old : List ℕ) (a : Address) (is : octetsAnswer bytes ≡ gives
 -- Demand 2 through the interface: the octets of an address are written as its normal text, and that text is read back to the octets, asked
 -- for either family or for its own.
 pub read-back : (a : Address) → IsAddress a → (old : List ℕ)
-    → (addressWritten (octets a) old ≡ writes [] (normalText a) old)
-    × (addressInto (strictAnswer 0 (normalText a)) old ≡ writes [] (octets a) old)
-    × (addressInto (strictAnswer (family a) (normalText a)) old ≡ writes [] (octets a) old)
+    → (addressWritten (octets a) old ≡ writes 0 (normalText a) old)
+    × (addressInto (strictAnswer 0 (normalText a)) old ≡ writes 0 (octets a) old)
+    × (addressInto (strictAnswer (family a) (normalText a)) old ≡ writes 0 (octets a) old)
 unfolding addressInto addressWritten whenGiven
 read-back a h old = let back = read-back-answer a h in (rw (octets-read-back a h), rw (back .0), rw (back .1))
 
@@ -172,8 +172,8 @@ pub address-held : (x : Answer Address) (old : List ℕ) (m : ℕ) → addressIn
 unfolding addressInto
 address-held x old m good =
     let a = x .fields in
-    let (is, on, wrote) = outcome-went-on 0 old x (λ a. writes [] (octets a) old) m good in
-    let w = written-held [] (octets a) old m wrote in
+    let (is, on, wrote) = outcome-went-on 0 old x (λ a. writes 0 (octets a) old) m good in
+    let w = written-held 0 (octets a) old m wrote in
     (is, ap (λ o. take m (o .leaves)) on ∙ w .0, w .1 ∙ octets-length a)
 
 -- After a good call the caller holds, of every text that is read as a network, the size and the bytes that the text means;
@@ -182,7 +182,7 @@ pub network-held : (t old : List ℕ) → networkInto t old .answers .number ≡
 unfolding networkInto networkLeaves
 network-held t old good =
     let (is, answered, wrote) = laws.network-good t old good in
-    (Option·getD (networkOf t) noNetwork, is, good-filled _ (readReasons t (networkOf t)) _ old wrote _ answered)
+    (Option·getD (networkOf t) noNetwork, is, good-filled _ (readNetworkRefusal t (networkOf t)) _ old wrote _ answered)
 
 -- of every text that is read as a block, the length and the octets of its address;
 pub block-held : (t old : List ℕ) → blockInto t old .answers .number ≡ 0
@@ -191,22 +191,22 @@ unfolding blockInto
 block-held t old good =
     let b = blockTextAnswer t .fields in
     let bytes = octets (b .address) in
-    let put : Block → Outcome (ℕ × ℕ) = λ b. outcome (besides (b .length) (writeAnswer [] (octets (b .address)) old)) (writeLeaves [] (octets (b .address)) old) in
+    let put : Block → Outcome (ℕ × ℕ) = λ b. outcome (besides (b .length) (writeAnswer 0 (octets (b .address)) old)) (writeLeaves 0 (octets (b .address)) old) in
     let (is, on, wrote) = number-went-on (0, 0) old (blockTextAnswer t) put good in
-    let answered = ap (besides (b .length)) (good-writes [] bytes old wrote) ∙ ap (λ (m : ℕ). gives (b .length, m)) (octets-length (b .address)) in
-    (b, is, subst (Filled _ bytes old) (sym on) (good-filled _ [] bytes old wrote _ answered))
+    let answered = ap (besides (b .length)) (good-writes 0 bytes old wrote) ∙ ap (λ (m : ℕ). gives (b .length, m)) (octets-length (b .address)) in
+    (b, is, subst (Filled _ bytes old) (sym on) (good-filled _ 0 bytes old wrote _ answered))
 
 -- and of octets that are written as a text, the text of their address: all of it, as many bytes as the call says.
 module _ (bytes old : List ℕ) where
   pub address-written-held : addressWritten bytes old .answers .number ≡ 0
       → (a : Address) × (octetsAnswer bytes ≡ gives a) × Filled (length (normalText a)) (normalText a) old (addressWritten bytes old)
   unfolding addressWritten
-  address-written-held = text-held old (octetsAnswer bytes) (λ a. []) normalText
+  address-written-held = text-held old (octetsAnswer bytes) (λ a. 0) normalText
 
   pub network-written-held : (size : ℕ) → networkWritten bytes size old .answers .number ≡ 0
       → (a : Address) × (octetsAnswer bytes ≡ gives a) × (let text = networkText (number a) size in Filled (length text) text old (networkWritten bytes size old))
   unfolding networkWritten
-  network-written-held size = text-held old (octetsAnswer bytes) (λ a. writeReasons a size) (λ a. networkText (number a) size)
+  network-written-held size = text-held old (octetsAnswer bytes) (λ a. writeNetworkRefusal a size) (λ a. networkText (number a) size)
 
   pub block-written-held : (len : ℕ) → blockWritten bytes len old .answers .number ≡ 0
       → (a : Address) × (octetsAnswer bytes ≡ gives a)
@@ -214,7 +214,7 @@ module _ (bytes old : List ℕ) where
   unfolding blockWritten
   block-written-held len =
       let block : Address → Block = λ a. record { address = a; length = len } in
-      text-held old (octetsAnswer bytes) (λ a. blockReasons (block a)) (λ a. blockText (block a))
+      text-held old (octetsAnswer bytes) (λ a. blockRefusal (block a)) (λ a. blockText (block a))
 
 -- Demand 2: octets are written as a text, and that text, the bytes that the caller then holds, is read as the same octets, asked for either
 -- family or for that of the address.
@@ -225,7 +225,7 @@ pub address-back : (bytes old : List ℕ) (n : ℕ) → AllBelow 256 bytes → a
 unfolding addressWritten
 address-back bytes old n small good buf room =
     let a = octetsAnswer bytes .fields in
-    let (is, on, wrote) = outcome-went-on 0 old (octetsAnswer bytes) (λ a. writes [] (normalText a) old) n good in
+    let (is, on, wrote) = outcome-went-on 0 old (octetsAnswer bytes) (λ a. writes 0 (normalText a) old) n good in
     let back = normal.written-read-back a (is-address bytes a small is) old n wrote in
     let same = octets-of-read bytes a small is in (
       into-filled bytes buf room _ a (ap (λ o. strictAnswer 0 (take n (o .leaves))) on ∙ back .0) same,
@@ -340,7 +340,7 @@ module _ (k : ℕ) (old : List ℕ) where
 pub words-held : (k : ℕ) (old : List ℕ) (n : ℕ) → wordsInto k old .answers ≡ gives n
     → (take n (wordsInto k old .leaves) ≡ wordsText k) × (n ≡ length (wordsText k)) × (drop n (wordsInto k old .leaves) ≡ drop n old)
 unfolding wordsInto
-words-held k old n good = let w = written-held (wordsReasons k) (wordsText k) old n good in (w .0, w .1, w .3)
+words-held k old n good = let w = written-held (wordsRefusal k) (wordsText k) old n good in (w .0, w .1, w .3)
 
 -- ---- bytes that are no address
 

@@ -1,23 +1,26 @@
 -- Outcomes of the C interface, from what the calls below it answer. Assumes nothing.
 use mathlib.Core.Path.{_≡_, refl, sym, ap, _∙_}
-use mathlib.Core.Bool.{Bool, true, false}
-use mathlib.Core.List.{List, [], _∷_}
-use Prim.Native.Nat.{ℕ, _<_, min}
+use mathlib.Core.Bool.{false}
+use mathlib.Core.List.{List}
+use Prim.Native.Nat.{ℕ, _+_, _*_, _^_, _<_, min}
 use native.Mathlib.Decide.{decLe}
 use native.Mathlib.Omega.{arith}
-use borrow.Author.Tests.{lt-ltb, ne-eqb}
-use lib.Dec.{eqb}
+use borrow.Author.Tests.{ne-eqb}
 use Rattle.address.specs.declared.Address.{Address}
+use Rattle.address.specs.declared.Address.the-variants.{V4, V6}
 use Rattle.address.specs.declared.Block.{Block}
-use Rattle.address.specs.Addresses.{family, width, number}
+use Rattle.address.specs.Addresses.{family}
 use Rattle.address.specs.declared.Reading.{Reading}
 use Rattle.address.specs.declared.Reading.the-variants.{Read, Refused}
 use Rattle.address.specs.declared.Refusal.{Refusal}
+use Rattle.address.specs.declared.Refusal.the-variants.{LengthTooLarge, WrongFamily}
 use Rattle.address.specs.Answers.{Answer, gives, refuses, refusalNumber, noAddress, readingAnswer, writeAnswer, writeLeaves}
-use Rattle.address.proofs.AnswerLaws.{nonzero}
+use Rattle.address.proofs.AnswerLaws.{nonzero, write-other}
+use Rattle.address.proofs.BlockLaws.{refusal-length}
 use Rattle.text.specs.Strict.{knownFamily, strictAnswer}
 use Rattle.text.proofs.StrictLaws.{strict-unknown}
 use Rattle.network.specs.NetworkText.{networkText}
+use Rattle.network.proofs.TextLaws.{write-6, write-large}
 use Rattle.blocks.specs.BlockText.{blockText}
 use Rattle.blocks.proofs.BlockTextLaws.{width-most}
 use Rattle.c_answers.specs.CAnswers.{besides}
@@ -28,9 +31,9 @@ pub both : {A : Type 0} {a b : Answer A} {l m : List ℕ} → a ≡ b → l ≡ 
 both p q = λ i. record { answers = p i; leaves = q i }
 
 -- what a writer answers and leaves
-pub wrote : {r s : Answer ℕ} {new : List ℕ} (reasons : List (ℕ × Bool)) (bytes old : List ℕ)
-    → r ≡ s → (s ≡ writeAnswer reasons bytes old) × (new ≡ writeLeaves reasons bytes old) → outcome r new ≡ writes reasons bytes old
-wrote reasons bytes old e w = both (e ∙ w .0) (w .1)
+pub wrote : {r s : Answer ℕ} {new : List ℕ} (refused : ℕ) (bytes old : List ℕ)
+    → r ≡ s → (s ≡ writeAnswer refused bytes old) × (new ≡ writeLeaves refused bytes old) → outcome r new ≡ writes refused bytes old
+wrote refused bytes old e w = both (e ∙ w .0) (w .1)
 
 module _ {A B : Type 0} (refused : ℕ → B) (f : A → B) (x : Answer A) where
   -- a value goes on
@@ -76,27 +79,28 @@ family-cut family n t e = cut (λ m. strictAnswer m t) family n e (λ h. sym (st
     unknown : 255 < family → knownFamily family ≡ false
     unknown h = rw (ne-eqb family 4 (omega arith), ne-eqb family 6 (omega arith), ne-eqb family 0 (omega arith))
 
--- a refusal by 4 is the same whatever would be written
-large-size : (p : Bool) (b c old : List ℕ) → writes ((9, p) ∷ (4, true) ∷ []) b old ≡ writes ((9, p) ∷ (4, true) ∷ []) c old
-unfolding writeAnswer writeLeaves
-large-size true b c old = refl
-large-size false b c old = refl
-
-large-length : (p q : Bool) (b c old : List ℕ) → writes ((4, true) ∷ (5, p) ∷ []) b old ≡ writes ((4, true) ∷ (5, q) ∷ []) c old
-unfolding writeAnswer writeLeaves
-large-length p q b c old = refl
+-- a refusal is the same whatever would be written
+alike : (e : Refusal) {n m : ℕ} (b c old : List ℕ) → refusalNumber e ≡ n → refusalNumber e ≡ m → writes n b old ≡ writes m c old
+alike e {n} {m} b c old h k =
+    let p = write-other n b old e h in
+    let q = write-other m c old e k in
+    both (sym (p .0) ∙ q .0) (sym (p .1) ∙ q .1)
 
 -- so is a size above 255
 pub size-cut : (a : Address) (size n : ℕ) (old : List ℕ) → n ≡ min size 255 → networkWrites a n old ≡ networkWrites a size old
-size-cut a size n old e =
-    cut (λ m. networkWrites a m old) size n e
-    (λ h. rw (lt-ltb 32 size (omega arith)) (large-size (eqb (family a) 6) (networkText (number a) 255) (networkText (number a) size) old))
+size-cut a size n old e = cut (λ m. networkWrites a m old) size n e (λ h. large a h)
+  where
+    large : (a : Address) → 255 < size → networkWrites a 255 old ≡ networkWrites a size old
+    large (V4 v) h = alike LengthTooLarge (networkText v 255) (networkText v size) old (write-large v 255 (omega arith)) (write-large v size (omega arith))
+    large (V6 hi lo) h = alike WrongFamily (networkText (hi * 2 ^ 64 + lo) 255) (networkText (hi * 2 ^ 64 + lo) size) old (write-6 hi lo 255) (write-6 hi lo size)
 
 -- and a length
 pub length-cut : (a : Address) (length n : ℕ) (old : List ℕ) → n ≡ min length 255 → blockWrites a n old ≡ blockWrites a length old
 length-cut a length n old e =
     cut (λ m. blockWrites a m old) length n e
-    (λ h. rw (lt-ltb (width a) 255 (omega (arith, width-most a)), lt-ltb (width a) length (omega (arith, width-most a))) (large-length _ _ (blockText (blockOf 255)) (blockText (blockOf length)) old))
+    (λ h. alike LengthTooLarge (blockText (blockOf 255)) (blockText (blockOf length)) old
+    (sym (refusal-length (blockOf 255) (omega (arith, width-most a))))
+    (sym (refusal-length (blockOf length) (omega (arith, width-most a)))))
   where
     blockOf : ℕ → Block
     blockOf m = record { address = a; length = m }

@@ -1,7 +1,7 @@
 -- What the calls of the C interface leave in the caller's buffers, from what the calls below them answer. Assumes nothing.
 use mathlib.Core.Path.{_≡_, refl, sym, ap, ap₂, subst, _∙_}
 use mathlib.Core.Logic.{_↔_}
-use mathlib.Core.Bool.{Bool, true, false}
+use mathlib.Core.Bool.{Bool, true, false, cond}
 use mathlib.Core.List.{List, [], _∷_, _++_}
 use mathlib.Core.Option.{Option, some, none, Option·getD}
 use Prim.Native.Nat.{ℕ, _+_, _*_, _≤_, _<_}
@@ -17,13 +17,13 @@ use Rattle.address.specs.declared.Address.{Address}
 use Rattle.address.specs.declared.Address.the-variants.{V4, V6}
 use Rattle.address.specs.declared.Refusal.the-variants.{NoClass}
 use Rattle.address.specs.Addresses.{IsAddress, width, number}
-use Rattle.address.specs.Answers.{Answer, refusal, gives, refuses, writeRefusal, writeAnswer}
-use Rattle.address.proofs.AnswerLaws.{answer-gives}
+use Rattle.address.specs.Answers.{Answer, gives, refuses, writeRefusal, writeAnswer}
+use Rattle.address.proofs.AnswerLaws.{answer-gives, no-refusal}
 use Rattle.address.proofs.Claims.{one-width}
 use Rattle.octets.specs.Octets.{octetsAnswer}
 use Rattle.octets.proofs.Claims.{number-is, no-address-exactly}
 use Rattle.octets.proofs.OctetLaws.{read-4}
-use Rattle.network.specs.Network.{Network, networkOf, noNetwork, readReasons, networkAnswer}
+use Rattle.network.specs.Network.{Network, networkOf, noNetwork, readNetworkRefusal, networkAnswer}
 use Rattle.classes.specs.Classes.{classA, classB, classC, splitAnswer}
 use Rattle.classes.proofs.ClassLaws.{class-a, class-b, class-c, class-none, split-class, split-none, split-6}
 use Rattle.records.specs.Records.{recordSize, recordsOf, readRecords}
@@ -65,26 +65,29 @@ unfolding whenGiven
 none-given bytes n m refused f = rw (no-address-exactly bytes .1 (n, m))
 
 -- a writer that refuses nothing answers how many bytes it has
-pub good-writes : (reasons : List (ℕ × Bool)) (bytes old : List ℕ) → writeAnswer reasons bytes old .number ≡ 0 → writeAnswer reasons bytes old ≡ gives (length bytes)
+pub good-writes : (refused : ℕ) (bytes old : List ℕ) → writeAnswer refused bytes old .number ≡ 0 → writeAnswer refused bytes old ≡ gives (length bytes)
 unfolding writeAnswer
-good-writes reasons bytes old e = sym (answer-gives 0 (length bytes) _ e)
+good-writes refused bytes old e = sym (answer-gives 0 (length bytes) _ e)
 
 -- ---- networks
 
 -- a text without a meaning is refused
-none-refused : (p q : Bool) (bytes old : List ℕ) → ¬ (writeRefusal ((1, p) ∷ (2, true) ∷ (4, q) ∷ []) bytes old ≡ 0)
-unfolding refusal
-none-refused true q bytes old e = absurd (omega arith)
-none-refused false q bytes old e = absurd (omega arith)
+none-refused : (t : List ℕ) → ¬ (readNetworkRefusal t none ≡ 0)
+unfolding readNetworkRefusal
+none-refused t = go (ltb 64 (length t))
+  where
+    go : (p : Bool) → ¬ (_≡_ {A = ℕ} (cond p 1 2) 0)
+    go true e = omega (arith, e)
+    go false e = omega (arith, e)
 
-network-some : (t old : List ℕ) (o : Option Network) → let n = Option·getD o noNetwork in writeRefusal (readReasons t o) (n .bytes) old ≡ 0 → o ≡ some n
-network-some t old none e = absurd (none-refused (ltb 64 (length t)) _ [] old e)
+network-some : (t old : List ℕ) (o : Option Network) → let n = Option·getD o noNetwork in writeRefusal (readNetworkRefusal t o) (n .bytes) old ≡ 0 → o ≡ some n
+network-some t old none e = absurd (none-refused t (no-refusal [] old (readNetworkRefusal t none) .0 e .0))
 network-some t old (some n) e = refl
 
 -- and a good answer is the size and the bytes of its meaning
 pub network-good : (t old : List ℕ) → networkAnswer t old .number ≡ 0
     → let n = Option·getD (networkOf t) noNetwork in
-    (networkOf t ≡ some n) × (networkAnswer t old ≡ gives (n .size, length (n .bytes))) × (writeAnswer (readReasons t (networkOf t)) (n .bytes) old .number ≡ 0)
+    (networkOf t ≡ some n) × (networkAnswer t old ≡ gives (n .size, length (n .bytes))) × (writeAnswer (readNetworkRefusal t (networkOf t)) (n .bytes) old .number ≡ 0)
 unfolding networkAnswer writeAnswer
 network-good t old e = (network-some t old (networkOf t) e, sym (answer-gives (0, 0) _ _ e), e)
 

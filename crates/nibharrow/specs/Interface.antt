@@ -1,22 +1,22 @@
 -- The C interface: the outcome of each call. An address crosses as its octets; bytes that are no address are refusal 2 (decision 4).
 -- Assumes nothing.
-use mathlib.Core.Bool.{Bool, cond}
-use mathlib.Core.List.{List, []}
+use mathlib.Core.Bool.{cond}
+use mathlib.Core.List.{List}
 use Prim.Native.Nat.{ℕ}
 use lib.Dec.{eqb}
 use Rattle.address.specs.declared.Address.{Address}
 use Rattle.address.specs.declared.Block.{Block}
 use Rattle.address.specs.Addresses.{number}
 use Rattle.address.specs.Answers.{Answer, writeAnswer, writeLeaves}
-use Rattle.address.specs.Blocks.{blockReasons}
+use Rattle.address.specs.Blocks.{blockRefusal}
 use Rattle.octets.specs.Octets.{octets, octetsAnswer}
 use Rattle.normal.specs.Normal.{normalText}
-use Rattle.network.specs.NetworkText.{networkText, writeReasons}
+use Rattle.network.specs.NetworkText.{networkText, writeNetworkRefusal}
 use Rattle.network.specs.Network.{networkAnswer, networkLeaves}
 use Rattle.classes.specs.Classes.{splitAnswer}
 use Rattle.blocks.specs.BlockText.{blockTextAnswer, blockText}
 use Rattle.ranges.specs.Ranges.{rangeAnswer, rangeLeaves}
-use Rattle.words.specs.Words.{wordsText, wordsReasons}
+use Rattle.words.specs.Words.{wordsText, wordsRefusal}
 use Rattle.c_answers.specs.CAnswers.{besides}
 
 -- ---- outcomes
@@ -40,19 +40,19 @@ refusedBy zeros n = record { number = n; fields = zeros }
 abbrev pub andThen : {A B : Type 0} → B → List ℕ → Answer A → (A → Outcome B) → Outcome B
 andThen zeros old = whenGiven (λ n. outcome (refusedBy zeros n) old)
 
--- bytes written to the start of the buffer, where nothing is against it
-abbrev pub writes : List (ℕ × Bool) → List ℕ → List ℕ → Outcome ℕ
-writes reasons bytes old = outcome (writeAnswer reasons bytes old) (writeLeaves reasons bytes old)
+-- bytes written to the start of the buffer, or a refusal by the number n
+abbrev pub writes : ℕ → List ℕ → List ℕ → Outcome ℕ
+writes n bytes old = outcome (writeAnswer n bytes old) (writeLeaves n bytes old)
 
 -- ---- the calls
 
 -- the address of an answer, put into a lent buffer: `nibharrow_read_address`, `nibharrow_read_loose`, `nibharrow_join`
 unfoldable pub addressInto : Answer Address → List ℕ → Outcome ℕ
-addressInto a old = andThen 0 old a (λ x. writes [] (octets x) old)
+addressInto a old = andThen 0 old a (λ x. writes 0 (octets x) old)
 
 -- `nibharrow_write_address`
 unfoldable pub addressWritten : List ℕ → List ℕ → Outcome ℕ
-addressWritten bytes old = andThen 0 old (octetsAnswer bytes) (λ a. writes [] (normalText a) old)
+addressWritten bytes old = andThen 0 old (octetsAnswer bytes) (λ a. writes 0 (normalText a) old)
 
 -- `nibharrow_read_network`
 unfoldable pub networkInto : List ℕ → List ℕ → Outcome (ℕ × ℕ)
@@ -60,7 +60,7 @@ networkInto t old = outcome (networkAnswer t old) (networkLeaves t old)
 
 -- `nibharrow_write_network`
 abbrev pub networkWrites : Address → ℕ → List ℕ → Outcome ℕ
-networkWrites a size old = writes (writeReasons a size) (networkText (number a) size) old
+networkWrites a size old = writes (writeNetworkRefusal a size) (networkText (number a) size) old
 
 unfoldable pub networkWritten : List ℕ → ℕ → List ℕ → Outcome ℕ
 networkWritten bytes size old = andThen 0 old (octetsAnswer bytes) (λ a. networkWrites a size old)
@@ -71,11 +71,11 @@ octetsSplit bytes = whenGiven (refusedBy (0, 0)) (octetsAnswer bytes) splitAnswe
 
 -- `nibharrow_read_block`: the length, and the address in the buffer
 unfoldable pub blockInto : List ℕ → List ℕ → Outcome (ℕ × ℕ)
-blockInto t old = andThen (0, 0) old (blockTextAnswer t) (λ b. outcome (besides (b .length) (writeAnswer [] (octets (b .address)) old)) (writeLeaves [] (octets (b .address)) old))
+blockInto t old = andThen (0, 0) old (blockTextAnswer t) (λ b. outcome (besides (b .length) (writeAnswer 0 (octets (b .address)) old)) (writeLeaves 0 (octets (b .address)) old))
 
 -- `nibharrow_write_block`
 abbrev pub blockWrites : Address → ℕ → List ℕ → Outcome ℕ
-blockWrites a n old = let b : Block = record { address = a; length = n } in writes (blockReasons b) (blockText b) old
+blockWrites a n old = let b : Block = record { address = a; length = n } in writes (blockRefusal b) (blockText b) old
 
 unfoldable pub blockWritten : List ℕ → ℕ → List ℕ → Outcome ℕ
 blockWritten bytes n old = andThen 0 old (octetsAnswer bytes) (λ a. blockWrites a n old)
@@ -89,4 +89,4 @@ rangeInto first last old = andThen (0, 0) old (octetsAnswer first) (λ a. rangeT
 
 -- `nibharrow_refusal_text`
 unfoldable pub wordsInto : ℕ → List ℕ → Outcome ℕ
-wordsInto n old = writes (wordsReasons n) (wordsText n) old
+wordsInto n old = writes (wordsRefusal n) (wordsText n) old

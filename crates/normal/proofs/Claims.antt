@@ -2,7 +2,7 @@
 use mathlib.Core.Path.{_≡_, refl}
 use mathlib.Core.Logic.{_↔_}
 use mathlib.Core.Bool.{true, false}
-use mathlib.Core.List.{List, [], _∷_, _++_, map}
+use mathlib.Core.List.{List, _∷_, _++_, map}
 use mathlib.Core.Option.{Option, some, none}
 use Prim.Native.Nat.{ℕ, _+_, _-_, _≤_, _<_}
 use native.Mathlib.Omega.{arith}
@@ -15,7 +15,7 @@ use Rattle.notation.specs.Options.{every}
 use Rattle.address.specs.declared.Address.{Address}
 use Rattle.address.specs.declared.Address.the-variants.{V4, V6}
 use Rattle.address.specs.Addresses.{IsAddress, family}
-use Rattle.address.specs.Answers.{refusal, gives, writeAnswer, writeLeaves}
+use Rattle.address.specs.Answers.{gives, writeAnswer, writeLeaves}
 use Rattle.address.proofs.Claims as address
 use Rattle.address.proofs.AnswerLaws.{read-held}
 use Rattle.digits.specs.Numerals.{digitOf, groupOf, lower}
@@ -46,13 +46,11 @@ at-most-39 = text-6-most
 
 -- "The answer is the number of bytes written; refusal 3 exactly if the room is less."
 module _ (a : Address) (old : List ℕ) where
-  pub good-exactly : (writeAnswer [] (normalText a) old ≡ gives (length (normalText a))) ↔ (length (normalText a) ≤ length old)
-  unfolding refusal
-  good-exactly = let good = address.good-exactly [] (normalText a) old refl in (λ e. good .0 e .1, λ h. good .1 (refl, h))
+  pub good-exactly : (writeAnswer 0 (normalText a) old ≡ gives (length (normalText a))) ↔ (length (normalText a) ≤ length old)
+  good-exactly = let good = address.good-exactly 0 (normalText a) old in (λ e. good .0 e .1, λ h. good .1 (refl, h))
 
-  pub room-exactly : (writeAnswer [] (normalText a) old .number ≡ 3) ↔ (length old < length (normalText a))
-  unfolding refusal
-  room-exactly = let room = address.room-exactly [] (normalText a) old refl in (λ e. room .0 e .1, λ h. room .1 (refl, h))
+  pub room-exactly : (writeAnswer 0 (normalText a) old .number ≡ 3) ↔ (length old < length (normalText a))
+  room-exactly = let room = address.room-exactly 0 (normalText a) old (λ e. omega (arith, e)) in (λ e. room .0 e .1, λ h. room .1 (refl, h))
 
 -- ---- reading what was written
 
@@ -64,11 +62,11 @@ pub read-back-answer : (a : Address) → IsAddress a → (strictAnswer 0 (normal
 read-back-answer = text-answer
 
 -- Demand 2, of what the caller holds: the bytes that the buffer holds after a good call, as many as it says, are read as the address.
-pub written-read-back : (a : Address) → IsAddress a → (old : List ℕ) (n : ℕ) → writeAnswer [] (normalText a) old ≡ gives n
-    → let text = take n (writeLeaves [] (normalText a) old) in (strictAnswer 0 text ≡ gives a) × (strictAnswer (family a) text ≡ gives a)
+pub written-read-back : (a : Address) → IsAddress a → (old : List ℕ) (n : ℕ) → writeAnswer 0 (normalText a) old ≡ gives n
+    → let text = take n (writeLeaves 0 (normalText a) old) in (strictAnswer 0 text ≡ gives a) × (strictAnswer (family a) text ≡ gives a)
 written-read-back a h old n e =
     let back = read-back-answer a h in
-    (read-held [] (normalText a) old (strictAnswer 0) (back .0) n e, read-held [] (normalText a) old (strictAnswer (family a)) (back .1) n e)
+    (read-held 0 (normalText a) old (strictAnswer 0) (back .0) n e, read-held 0 (normalText a) old (strictAnswer (family a)) (back .1) n e)
 
 -- Any spelling of eight groups, in either case and with leading zeros up to four digits, is read as the groups; and so is one with
 -- `::` for the zeros between those on its two sides.

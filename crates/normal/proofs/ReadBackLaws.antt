@@ -18,7 +18,7 @@ use Rattle.notation.proofs.EveryLaws.{every-written}
 use Rattle.address.specs.declared.Address.{Address}
 use Rattle.address.specs.declared.Address.the-variants.{V4, V6}
 use Rattle.address.specs.Addresses.{IsAddress, family, number}
-use Rattle.address.specs.Answers.{readAnswer, noAddress, gives}
+use Rattle.address.specs.Answers.{precedence, readAnswer, noAddress, gives}
 use Rattle.address_groups.specs.Groups.{groupsOf, groupsAddress}
 use Rattle.address_groups.proofs.Claims.{halves-of-groups}
 use Rattle.digits.specs.Numerals.{digitOf, groupOf, decimal, hex}
@@ -107,7 +107,7 @@ strict-gives : (f : ℕ) (t : List ℕ) (a : Address) → (eqb f 4 || (eqb f 6 |
 unfolding strictAnswer readAnswer
 strict-gives f t a asked short e = go (eqb f 4 || (eqb f 6 || eqb f 0)) (ltb 64 (length t)) (strictOf f t) asked (le-ltb 64 (length t) short) e
   where
-    go : (x y : Bool) (o : Option Address) → x ≡ true → y ≡ false → o ≡ some a → readAnswer noAddress ((9, not x) ∷ (1, y) ∷ []) o ≡ gives a
+    go : (x y : Bool) (o : Option Address) → x ≡ true → y ≡ false → o ≡ some a → readAnswer precedence noAddress ((9, not x) ∷ (1, y) ∷ []) o ≡ gives a
     go x y o p q r = rw (p, q, r)
 
 pub text-answer : (a : Address) → IsAddress a → (strictAnswer 0 (normalText a) ≡ gives a) × (strictAnswer (family a) (normalText a) ≡ gives a)

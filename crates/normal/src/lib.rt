@@ -1,6 +1,5 @@
 // Normal text of an address, written.
 ghost use mathlib.Core.Path.{_≡_};
-ghost use mathlib.Core.List.{[]};
 ghost use Rattle.address.specs.Answers.{writingAnswer, writeAnswer, writeLeaves};
 ghost use Rattle.output.specs.Placing.{Puts};
 ghost use Rattle.normal.specs.Normal.{normalText};
@@ -25,7 +24,7 @@ pub fn put_address(text: &mut [u8], at: usize, address: Address) -> usize
 
 // Writes the normal text of an address to the start of `out`, where there is room for it.
 pub fn write_address(address: Address, out: &mut [u8]) -> Writing
-    ensures { λ r. ⌜ (writingAnswer r ≡ writeAnswer [] (normalText address) (now (out .entry))) × (now (out .exit) ≡ writeLeaves [] (normalText address) (now (out .entry))) ⌝ }
+    ensures { λ r. ⌜ (writingAnswer r ≡ writeAnswer 0 (normalText address) (now (out .entry))) × (now (out .exit) ≡ writeLeaves 0 (normalText address) (now (out .entry))) ⌝ }
 {
     let mut text = [0u8; 48];
     let n = put_address(&mut text, 0, address);

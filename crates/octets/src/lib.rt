@@ -1,6 +1,6 @@
 // An address as octets: 4 or 16 bytes in network order.
 ghost use mathlib.Core.Path.{_≡_};
-ghost use mathlib.Core.List.{[], reverse};
+ghost use mathlib.Core.List.{reverse};
 ghost use Prim.Native.Nat.{_+_, _*_, _≤_};
 ghost use lib.ListN.{length, take, drop};
 ghost use Rattle.notation.specs.BigEndian.{digitsOf, numberOf};
@@ -13,7 +13,7 @@ use address::Writing;
 
 // Puts four bytes at the start of `out`, where there is room for them.
 pub fn put_four(v: u32, out: &mut [u8])
-    ensures { λ _. ⌜ now (out .exit) ≡ writeLeaves [] (digitsOf 256 4 v) (now (out .entry)) ⌝ }
+    ensures { λ _. ⌜ now (out .exit) ≡ writeLeaves 0 (digitsOf 256 4 v) (now (out .entry)) ⌝ }
 {
     if out.len() < 4 {
         return;
@@ -26,7 +26,7 @@ pub fn put_four(v: u32, out: &mut [u8])
 
 // The same of eight bytes.
 pub fn put_eight(v: u64, out: &mut [u8])
-    ensures { λ _. ⌜ now (out .exit) ≡ writeLeaves [] (digitsOf 256 8 v) (now (out .entry)) ⌝ }
+    ensures { λ _. ⌜ now (out .exit) ≡ writeLeaves 0 (digitsOf 256 8 v) (now (out .entry)) ⌝ }
 {
     if out.len() < 8 {
         return;
@@ -37,7 +37,7 @@ pub fn put_eight(v: u64, out: &mut [u8])
 
 // Puts the address at the start of `out`, where there is room for it.
 pub fn write_octets(address: Address, out: &mut [u8]) -> Writing
-    ensures { λ r. ⌜ (writingAnswer r ≡ writeAnswer [] (octets address) (now (out .entry))) × (now (out .exit) ≡ writeLeaves [] (octets address) (now (out .entry))) ⌝ }
+    ensures { λ r. ⌜ (writingAnswer r ≡ writeAnswer 0 (octets address) (now (out .entry))) × (now (out .exit) ≡ writeLeaves 0 (octets address) (now (out .entry))) ⌝ }
 {
     match address {
         Address::V4(v) => {

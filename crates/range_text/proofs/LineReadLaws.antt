@@ -17,7 +17,7 @@ use Rattle.address.specs.declared.Block.{Block}
 use Rattle.address.specs.declared.Refusal.{Refusal}
 use Rattle.address.specs.declared.Refusal.the-variants.{TextTooLong, Malformed, FirstAboveLast, WrongFamily}
 use Rattle.address.specs.Addresses.{family, width, number}
-use Rattle.address.specs.Answers.{gives, noBlock, readAnswer}
+use Rattle.address.specs.Answers.{precedence, gives, noBlock, readAnswer}
 use Rattle.address.specs.Blocks.{numbered, blockReasons}
 use Rattle.address.proofs.AddressLaws.{width-follows}
 use Rattle.digits.specs.Numerals.{digitOf, partOf}
@@ -38,7 +38,7 @@ block-meant : (t : List ℕ) (b : Block) → blockTextAnswer t ≡ gives b → (
 unfolding blockTextAnswer readAnswer
 block-meant t b e = go (blockOf t) (ltb 64 (length t)) (ap (λ r. r .number) e)
   where
-    go : (o : Option Block) (l : Bool) → readAnswer noBlock ((1, l) ∷ blockReasons (Option·getD o noBlock)) o .number ≡ 0 → (c : Block) × (o ≡ some c)
+    go : (o : Option Block) (l : Bool) → readAnswer precedence noBlock ((1, l) ∷ blockReasons (Option·getD o noBlock)) o .number ≡ 0 → (c : Block) × (o ≡ some c)
     go none true h = let z : _≡_ {A = ℕ} 1 0 = h in absurd (omega arith)
     go none false h = let z : _≡_ {A = ℕ} 2 0 = h in absurd (omega arith)
     go (some c) l h = (c, refl)

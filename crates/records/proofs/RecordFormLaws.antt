@@ -16,7 +16,7 @@ use Rattle.address.specs.declared.Address.the-variants.{V4}
 use Rattle.address.specs.declared.Block.{Block}
 use Rattle.address.specs.declared.Refusal.the-variants.{LengthTooLarge, BitsBeyondLength}
 use Rattle.address.specs.Addresses.{IsAddress, width, number}
-use Rattle.address.specs.Answers.{Answer, noBlock, readAnswer}
+use Rattle.address.specs.Answers.{precedence, Answer, noBlock, readAnswer}
 use Rattle.address.specs.Blocks.{blockReasons}
 use Rattle.address.proofs.BlockLaws.{refusal-length, refusal-bits, refusal-none, read-valid, read-refused}
 use Rattle.octets.specs.Octets.{octets, halves}
@@ -64,7 +64,7 @@ module _ (bs : List ℕ) (small : AllBelow 256 bs) where
 -- ---- the call
 
 module _ (bs : List ℕ) where
-  checked : {b : Block} {r : Answer Block} → RecordForm bs b → r ≡ readAnswer noBlock (blockReasons b) (some b) → r ≡ recordAnswer bs
+  checked : {b : Block} {r : Answer Block} → RecordForm bs b → r ≡ readAnswer precedence noBlock (blockReasons b) (some b) → r ≡ recordAnswer bs
   checked {b} f e = e ∙ sym (answer-block bs b (form-reads f))
 
   pub call-answers : {r : Answer Block} → RecordCall bs r → recordAnswer bs ≡ r

@@ -21,7 +21,7 @@ use Rattle.address.specs.declared.Block.{Block}
 use Rattle.address.specs.declared.Refusal.{Refusal}
 use Rattle.address.specs.declared.Refusal.the-variants.{NoRoom, Malformed}
 use Rattle.address.specs.Addresses.{IsAddress, family, width, number}
-use Rattle.address.specs.Answers.{Answer, gives, refuses, noAddress, noBlock, readAnswer, writeAnswer, writeLeaves}
+use Rattle.address.specs.Answers.{precedence, Answer, gives, refuses, noAddress, noBlock, readAnswer, writeAnswer, writeLeaves}
 use Rattle.address.specs.Blocks.{numbered, blockReasons, blockRefusal}
 use Rattle.address.proofs.AnswerLaws.{number-pos, write-short, write-fits}
 use Rattle.address.proofs.BlockLaws.{read-valid}
@@ -59,7 +59,7 @@ unfolding partsLeave
 parts-on p ns bytes old n l h = rw (le-leb n (length old) h, take-at p bytes n l, drop-at p bytes n l)
 
 -- a last byte has room or not
-parts-last : (x : ℕ) (old : List ℕ) → writeLeaves [] (x ∷ []) old ≡ partsLeave (1 ∷ []) (x ∷ []) old
+parts-last : (x : ℕ) (old : List ℕ) → writeLeaves 0 (x ∷ []) old ≡ partsLeave (1 ∷ []) (x ∷ []) old
 unfolding partsLeave
 parts-last x old = elim (decLe 1 (length old)) [
   | yes h ↦ sym (write-fits (x ∷ []) old 1 refl h ((x ∷ []) ++ drop 1 old) refl .1) ∙ parts-on (x ∷ []) [] [] old 1 refl h
@@ -108,13 +108,13 @@ parts-cut (n ∷ ns) bytes old h = elim (decLe n (length old)) [
 ]
 
 -- bytes put into the rest of a buffer, behind p
-rest-leaves : (n : ℕ) (old mid ys p q : List ℕ) → length p ≡ n → mid ≡ p ++ drop n old → ys ≡ writeLeaves [] q (midOf n (length mid - n) mid)
-    → putMid n (length mid - n) mid ys ≡ p ++ writeLeaves [] q (drop n old)
+rest-leaves : (n : ℕ) (old mid ys p q : List ℕ) → length p ≡ n → mid ≡ p ++ drop n old → ys ≡ writeLeaves 0 q (midOf n (length mid - n) mid)
+    → putMid n (length mid - n) mid ys ≡ p ++ writeLeaves 0 q (drop n old)
 rest-leaves n old mid ys p q l e f =
     let front : take n mid ≡ p = ap (take n) e ∙ take-at p (drop n old) n l in
     let back : drop n mid ≡ drop n old = ap (drop n) e ∙ drop-at p (drop n old) n l in
-    let put : ys ≡ writeLeaves [] q (drop n old) = f ∙ ap (writeLeaves [] q) (rest n mid ∙ back) in
-    ap (λ t. take n mid ++ (ys ++ t)) (rest-whole n mid) ∙ ap (λ t. take n mid ++ t) (append-nil ys ∙ put) ∙ ap (λ t. t ++ writeLeaves [] q (drop n old)) front
+    let put : ys ≡ writeLeaves 0 q (drop n old) = f ∙ ap (writeLeaves 0 q) (rest n mid ∙ back) in
+    ap (λ t. take n mid ++ (ys ++ t)) (rest-whole n mid) ∙ ap (λ t. take n mid ++ t) (append-nil ys ∙ put) ∙ ap (λ t. t ++ writeLeaves 0 q (drop n old)) front
 
 -- ---- the record of a block value, part by part
 
@@ -140,7 +140,7 @@ module _ (b : Block) (old : List ℕ) where
     pub fill-none-4 : length old < 4 → old ≡ filled
     fill-none-4 h = parts-stop 4 (1 ∷ []) (octets4 ++ last) old h ∙ filled-4
 
-    pub fill-4 : 4 ≤ length old → (mid ys : List ℕ) → mid ≡ writeLeaves [] octets4 old → ys ≡ writeLeaves [] last (midOf 4 (length mid - 4) mid)
+    pub fill-4 : 4 ≤ length old → (mid ys : List ℕ) → mid ≡ writeLeaves 0 octets4 old → ys ≡ writeLeaves 0 last (midOf 4 (length mid - 4) mid)
         → putMid 4 (length mid - 4) mid ys ≡ filled
     fill-4 h mid ys p q =
         rest-leaves 4 old mid ys octets4 last (digits-length 256 4 v) (leaves-fit octets4 old mid 4 (digits-length 256 4 v) h p) q
@@ -164,7 +164,7 @@ module _ (b : Block) (old : List ℕ) where
     pub fill-none-6 : length old < 8 → old ≡ filled
     fill-none-6 h = parts-stop 8 (8 ∷ 1 ∷ []) (upper ++ (lower ++ last)) old h ∙ filled-6
 
-    pub fill-half-6 : 8 ≤ length old → (mid : List ℕ) → mid ≡ writeLeaves [] upper old → length mid < 16 → mid ≡ filled
+    pub fill-half-6 : 8 ≤ length old → (mid : List ℕ) → mid ≡ writeLeaves 0 upper old → length mid < 16 → mid ≡ filled
     fill-half-6 h mid p short =
         let front = leaves-fit upper old mid 8 (digits-length 256 8 hi) h p in
         let few : length (drop 8 old) < 8 = omega (arith, ap length front, length-append upper (drop 8 old), digits-length 256 8 hi) in
@@ -173,14 +173,14 @@ module _ (b : Block) (old : List ℕ) where
         ∙ parts-on upper (8 ∷ 1 ∷ []) (lower ++ last) old 8 (digits-length 256 8 hi) h
         ∙ filled-6
 
-    pub fill-6 : 16 ≤ length old → (one ys two zs : List ℕ) → one ≡ writeLeaves [] upper old → ys ≡ writeLeaves [] lower (midOf 8 (length one - 8) one)
-        → two ≡ putMid 8 (length one - 8) one ys → zs ≡ writeLeaves [] last (midOf 16 (length two - 16) two)
+    pub fill-6 : 16 ≤ length old → (one ys two zs : List ℕ) → one ≡ writeLeaves 0 upper old → ys ≡ writeLeaves 0 lower (midOf 8 (length one - 8) one)
+        → two ≡ putMid 8 (length one - 8) one ys → zs ≡ writeLeaves 0 last (midOf 16 (length two - 16) two)
         → putMid 16 (length two - 16) two zs ≡ filled
     fill-6 h one ys two zs p q t r =
         let both : two ≡ (upper ++ lower) ++ drop 16 old = t ∙ leaves-behind 8 8 old one ys upper lower (digits-length 256 8 hi) (digits-length 256 8 lo) h p q in
         let long : length (upper ++ lower) ≡ 16 = length-append upper lower ∙ ap₂ (λ (m n : ℕ). m + n) (digits-length 256 8 hi) (digits-length 256 8 lo) in
         rest-leaves 16 old two zs (upper ++ lower) last long both r
-        ∙ append-assoc upper lower (writeLeaves [] last (drop 16 old))
+        ∙ append-assoc upper lower (writeLeaves 0 last (drop 16 old))
         ∙ ap (λ s. upper ++ (lower ++ s)) (parts-last (b .length) (drop 16 old) ∙ ap (partsLeave (1 ∷ []) last) (sym (drop-drop 8 8 old)))
         ∙ ap (λ s. upper ++ s) (parts-on lower (1 ∷ []) last (drop 8 old) 8 (digits-length 256 8 lo) (omega (arith, length-drop 8 old)))
         ∙ parts-on upper (8 ∷ 1 ∷ []) (lower ++ last) old 8 (digits-length 256 8 hi) (omega arith)
@@ -194,7 +194,7 @@ sizes-add (V6 hi lo) = refl
 pub fill-cut : (b : Block) (old : List ℕ) → (m : ℕ) × (m ≤ length old) × (partsLeave (partSizes (b .address)) (blockRecord b) old ≡ take m (blockRecord b) ++ drop m old)
 fill-cut b old = parts-cut (partSizes (b .address)) (blockRecord b) old (le-of-eq (sizes-add (b .address) ∙ sym (record-length (width (b .address)) (numbered b))))
 
-pub fill-whole : (b : Block) (old : List ℕ) → recordSize (width (b .address)) ≤ length old → partsLeave (partSizes (b .address)) (blockRecord b) old ≡ writeLeaves [] (blockRecord b) old
+pub fill-whole : (b : Block) (old : List ℕ) → recordSize (width (b .address)) ≤ length old → partsLeave (partSizes (b .address)) (blockRecord b) old ≡ writeLeaves 0 (blockRecord b) old
 fill-whole b old h =
     let size = record-length (width (b .address)) (numbered b) in
     parts-whole (partSizes (b .address)) (blockRecord b) old (sizes-add (b .address) ∙ sym size) (omega arith)
@@ -202,11 +202,11 @@ fill-whole b old h =
 
 -- a record that has no room, and one that has it
 module _ (b : Block) (old : List ℕ) where
-  pub put-short : length old < recordSize (width (b .address)) → (refuses 0 NoRoom ≡ writeAnswer [] (blockRecord b) old) × (old ≡ writeLeaves [] (blockRecord b) old)
+  pub put-short : length old < recordSize (width (b .address)) → (refuses 0 NoRoom ≡ writeAnswer 0 (blockRecord b) old) × (old ≡ writeLeaves 0 (blockRecord b) old)
   put-short = write-short (blockRecord b) old (recordSize (width (b .address))) (record-length (width (b .address)) (numbered b))
 
   pub put-fits : (n : ℕ) → n ≡ recordSize (width (b .address)) → n ≤ length old → (new : List ℕ) → new ≡ partsLeave (partSizes (b .address)) (blockRecord b) old
-      → (gives n ≡ writeAnswer [] (blockRecord b) old) × (new ≡ writeLeaves [] (blockRecord b) old)
+      → (gives n ≡ writeAnswer 0 (blockRecord b) old) × (new ≡ writeLeaves 0 (blockRecord b) old)
   put-fits n e h new w = (
     write-fits (blockRecord b) old n (record-length (width (b .address)) (numbered b) ∙ sym e) h (blockRecord b ++ drop n old) refl .0,
     w ∙ fill-whole b old (omega arith),
@@ -276,7 +276,7 @@ module _ (bs : List ℕ) where
 
   -- ---- the answer
 
-  pub answer-block : (b : Block) → recordBlock bs ≡ some b → recordAnswer bs ≡ readAnswer noBlock (blockReasons b) (some b)
+  pub answer-block : (b : Block) → recordBlock bs ≡ some b → recordAnswer bs ≡ readAnswer precedence noBlock (blockReasons b) (some b)
   unfolding recordAnswer
   answer-block b e = rw e
 

@@ -3,7 +3,7 @@ ghost use mathlib.Core.Path.{_≡_};
 ghost use mathlib.Core.List.{[], _∷_};
 ghost use Rattle.address.specs.Addresses.{width};
 ghost use Rattle.address.specs.Answers.{blockAnswer, writingAnswer, writeAnswer, writeLeaves};
-ghost use Rattle.address.specs.Blocks.{blockReasons};
+ghost use Rattle.address.specs.Blocks.{blockRefusal};
 ghost use Rattle.records.specs.Records.{recordSize, blockRecord, partSizes, partsLeave, recordAnswer};
 use address::Address;
 use address::Block;
@@ -28,7 +28,7 @@ pub fn record_size(address: Address) -> usize
 
 // Puts a byte at the start of `out`, where there is room for it.
 fn put_byte(byte: u8, out: &mut [u8])
-    ensures { λ _. ⌜ now (out .exit) ≡ writeLeaves [] (byte ∷ []) (now (out .entry)) ⌝ }
+    ensures { λ _. ⌜ now (out .exit) ≡ writeLeaves 0 (byte ∷ []) (now (out .entry)) ⌝ }
 {
     if out.len() < 1 {
         return;
@@ -67,7 +67,7 @@ pub fn fill_record(block: Block, out: &mut [u8])
 
 // Writes the record of a block to the start of `out`, where the block keeps both rules and there is room for it.
 pub fn write_record(block: Block, out: &mut [u8]) -> Writing
-    ensures { λ r. ⌜ (writingAnswer r ≡ writeAnswer (blockReasons block) (blockRecord block) (now (out .entry))) × (now (out .exit) ≡ writeLeaves (blockReasons block) (blockRecord block) (now (out .entry))) ⌝ }
+    ensures { λ r. ⌜ (writingAnswer r ≡ writeAnswer (blockRefusal block) (blockRecord block) (now (out .entry))) × (now (out .exit) ≡ writeLeaves (blockRefusal block) (blockRecord block) (now (out .entry))) ⌝ }
 {
     match block.check() {
         Check::Refused(e) => Writing::Refused(e),

@@ -69,7 +69,7 @@ pub lane-length : (l : Lane) (a k : ℕ) → length (laneRecord l a k) ≡ recor
 lane-length l a k = record-length (laneWidth l) (laneBlock l (record { address = a; length = laneBits l - k }))
 
 -- bytes put into the rest of a buffer, where there is room for them
-pub puts-rest : (now ys bytes : List ℕ) (at n : ℕ) → length bytes ≡ n → at + n ≤ length now → ys ≡ writeLeaves [] bytes (midOf at (length now - at) now)
+pub puts-rest : (now ys bytes : List ℕ) (at n : ℕ) → length bytes ≡ n → at + n ≤ length now → ys ≡ writeLeaves 0 bytes (midOf at (length now - at) now)
     → Puts now (putMid at (length now - at) now ys) at (at + n) bytes
 unfolding placed
 puts-rest now ys bytes at n size room e =
@@ -92,9 +92,9 @@ pub rest-room : (now : List ℕ) (at W U : ℕ) → W ≡ U → at + recordSize 
 rest-room now at W U e h = subst (λ (n : ℕ). recordSize n ≤ length (midOf at (length now - at) now)) (sym e) (omega (arith, ap length (rest at now), length-drop at now))
 
 -- the same of bytes that are known by another name
-pub puts-same : {now ys src bytes : List ℕ} {at n : ℕ} → src ≡ bytes → length bytes ≡ n → at + n ≤ length now → ys ≡ writeLeaves [] src (midOf at (length now - at) now)
+pub puts-same : {now ys src bytes : List ℕ} {at n : ℕ} → src ≡ bytes → length bytes ≡ n → at + n ≤ length now → ys ≡ writeLeaves 0 src (midOf at (length now - at) now)
     → Puts now (putMid at (length now - at) now ys) at (at + n) bytes
-puts-same {now} {ys} {src} {bytes} {at} {n} s size room e = puts-rest now ys bytes at n size room (e ∙ ap (λ b. writeLeaves [] b (midOf at (length now - at) now)) s)
+puts-same {now} {ys} {src} {bytes} {at} {n} s size room e = puts-rest now ys bytes at n size room (e ∙ ap (λ b. writeLeaves 0 b (midOf at (length now - at) now)) s)
 
 -- ---- one record after the other
 

@@ -1,13 +1,12 @@
 // A finished text stored in a lent buffer, all of it or nothing.
 ghost use mathlib.Core.Path.{_≡_};
-ghost use mathlib.Core.List.{[]};
 ghost use Rattle.address.specs.Answers.{writingAnswer, writeAnswer, writeLeaves};
 use address::Refusal;
 use address::Writing;
 
 // Stores a text at the start of `out`, where there is room for it.
 pub fn store(text: &[u8], out: &mut [u8]) -> Writing
-    ensures { λ r. ⌜ (writingAnswer r ≡ writeAnswer [] (now (text .entry)) (now (out .entry))) × (now (out .exit) ≡ writeLeaves [] (now (text .entry)) (now (out .entry))) ⌝ }
+    ensures { λ r. ⌜ (writingAnswer r ≡ writeAnswer 0 (now (text .entry)) (now (out .entry))) × (now (out .exit) ≡ writeLeaves 0 (now (text .entry)) (now (out .entry))) ⌝ }
 {
     let n = text.len();
     if out.len() < n {

@@ -13,7 +13,7 @@ use Rattle.address.specs.declared.Address.the-variants.{V4}
 use Rattle.address.specs.declared.Reading.the-variants.{Read, Refused}
 use Rattle.address.specs.declared.Refusal.{Refusal}
 use Rattle.address.specs.declared.Refusal.the-variants.{TextTooLong, WrongFamily}
-use Rattle.address.specs.Answers.{refuses, noAddress, readingAnswer, readAnswer}
+use Rattle.address.specs.Answers.{precedence, refuses, noAddress, readingAnswer, readAnswer}
 use Rattle.address_groups.specs.Groups.{groupsAddress}
 use Rattle.ipv4_text.specs.Dotted.{dottedOf}
 use Rattle.ipv6_text.specs.EightGroups.{eightOf}
@@ -59,6 +59,6 @@ module _ (f : ℕ) (t : List ℕ) where
     unfolding strictAnswer readAnswer
     strict-read l = rw (k, le-ltb 64 (length t) l) (go (strictOf f t))
       where
-        go : (o : Option Address) → readingAnswer (asReading o) ≡ readAnswer noAddress ((9, not true) ∷ (1, false) ∷ []) o
+        go : (o : Option Address) → readingAnswer (asReading o) ≡ readAnswer precedence noAddress ((9, not true) ∷ (1, false) ∷ []) o
         go none = refl
         go (some a) = refl

@@ -8,7 +8,7 @@ use lib.ListN.{length}
 use Rattle.notation.specs.Options.{orElse}
 use Rattle.address.specs.declared.Address.{Address}
 use Rattle.address.specs.declared.Address.the-variants.{V4}
-use Rattle.address.specs.Answers.{Answer, readAnswer, noAddress}
+use Rattle.address.specs.Answers.{precedence, Answer, readAnswer, noAddress}
 use Rattle.address_groups.specs.Groups.{groupsAddress}
 use Rattle.ipv4_text.specs.Dotted.{dottedOf}
 use Rattle.ipv6_text.specs.EightGroups.{eightOf}
@@ -27,6 +27,6 @@ knownFamily family = eqb family 4 || (eqb family 6 || eqb family 0)
 unfoldable pub strictAnswer : ℕ → List ℕ → Answer Address
 unfolding strictOf
 strictAnswer family t =
-    readAnswer noAddress
+    readAnswer precedence noAddress
     ((9, not (knownFamily family)) ∷ (1, ltb 64 (length t)) ∷ [])
     (strictOf family t)

@@ -5,15 +5,15 @@ use mathlib.Core.Bool.{Bool, true, false, cond, _&&_, false≢true}
 use mathlib.Core.List.{List, [], _∷_}
 use mathlib.Core.Option.{some, Option·getD}
 use Prim.Native.Nat.{ℕ, _≤_, _<_}
-use lib.Dec.{leb, ltb, eqb}
+use lib.Dec.{leb, eqb}
 use lib.ListN.{length}
 use Rattle.notation.specs.Ascii.{within}
 use Rattle.address.specs.declared.Refusal.{Refusal}
 use Rattle.address.specs.declared.Refusal.the-variants.{TextTooLong, Malformed, NoRoom, LengthTooLarge, BitsBeyondLength, NoClass, HostTooLarge, FirstAboveLast, WrongFamily}
-use Rattle.address.specs.Answers.{Answer, refusalNumber, missing, refusal, gives, writeAnswer}
+use Rattle.address.specs.Answers.{Answer, refusalNumber, missing, gives, writeAnswer}
 use Rattle.address.proofs.Claims.{one-number}
 use Rattle.address.proofs.Claims as address
-use Rattle.words.specs.Words.{table, wordsIn, refusalWords, wordsText, wordsReasons}
+use Rattle.words.specs.Words.{table, wordsIn, refusalWords, wordsText, wordsRefusal}
 use Rattle.words.proofs.WordsLaws as laws
 
 -- Every refusal has its words.
@@ -46,30 +46,28 @@ own-words e f h = one-number e f (sym (laws.number-back e) ∙ ap laws.numberBy 
 -- What a call with a number answers: 2 exactly if the number is none of these, 3 exactly if it is one and the room is less, and else it is good.
 module _ (n : ℕ) (old : List ℕ) where
   abbrev answered : Answer ℕ
-  answered = writeAnswer (wordsReasons n) (wordsText n) old
+  answered = writeAnswer (wordsRefusal n) (wordsText n) old
 
   pub unknown-exactly : (answered .number ≡ 2) ↔ ¬ ((1 ≤ n) × (n ≤ 9))
   unfolding writeAnswer
   unknown-exactly =
-      let none = laws.first-2 (missing (refusalWords n)) (ltb (length old) (length (wordsText n))) in (
+      let none = laws.refused-2 n (wordsText n) old in (
         λ e k. false≢true (sym (words-exactly n .1 k) ∙ none .0 e),
         λ f. none .1 (laws.not-false (missing (refusalWords n)) (λ e. f (words-exactly n .0 e))),
       )
 
   pub room-exactly : (answered .number ≡ 3) ↔ ((1 ≤ n) × (n ≤ 9) × (length old < length (wordsText n)))
-  unfolding refusal
   room-exactly =
-      let room = address.room-exactly (wordsReasons n) (wordsText n) old refl in
-      let none = laws.no-reason (missing (refusalWords n)) in (
+      let room = address.room-exactly (wordsRefusal n) (wordsText n) old (laws.not-3 n) in
+      let none = laws.no-reason n in (
         λ e. let r = room .0 e in let k = words-exactly n .0 (none .0 (r .0)) in (k .0, k .1, r .1),
         λ k. room .1 (none .1 (words-exactly n .1 (k .0, k .1)), k .2),
       )
 
   pub good-exactly : (answered ≡ gives (length (wordsText n))) ↔ ((1 ≤ n) × (n ≤ 9) × (length (wordsText n) ≤ length old))
-  unfolding refusal
   good-exactly =
-      let good = address.good-exactly (wordsReasons n) (wordsText n) old refl in
-      let none = laws.no-reason (missing (refusalWords n)) in (
+      let good = address.good-exactly (wordsRefusal n) (wordsText n) old in
+      let none = laws.no-reason n in (
         λ e. let r = good .0 e in let k = words-exactly n .0 (none .0 (r .0)) in (k .0, k .1, r .1),
         λ k. good .1 (none .1 (words-exactly n .1 (k .0, k .1)), k .2),
       )

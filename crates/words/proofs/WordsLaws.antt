@@ -8,12 +8,12 @@ use Prim.Native.Nat.{ℕ, _+_, _≤_, _<_}
 use native.Mathlib.Decide.{ℕ-discrete}
 use native.Mathlib.Omega.{arith}
 use borrow.Author.Tests.{ne-eqb, eq-eqb, eqb-true}
-use lib.Dec.{eqb}
+use lib.Dec.{eqb, ltb}
 use lib.ListN.{length, getD}
 use Rattle.address.specs.declared.Refusal.{Refusal}
-use Rattle.address.specs.Answers.{Answer, refusalNumber, missing, refusal, refuses, writeAnswer, writeLeaves}
+use Rattle.address.specs.Answers.{Answer, refusalNumber, missing, refuses, writeRefusal, writeAnswer, writeLeaves}
 use Rattle.address.specs.declared.Refusal.the-variants.{TextTooLong, Malformed, NoRoom, LengthTooLarge, BitsBeyondLength, NoClass, HostTooLarge, FirstAboveLast, WrongFamily}
-use Rattle.words.specs.Words.{table, wordsIn, refusalWords, wordsText, wordsReasons}
+use Rattle.words.specs.Words.{table, wordsIn, refusalWords, wordsText, wordsRefusal}
 
 -- ---- the table's numbers
 
@@ -78,18 +78,18 @@ number-back WrongFamily = refl
 
 -- what the contract says of an answer and a buffer
 abbrev Writes : ℕ → List ℕ → Answer ℕ → List ℕ → Type 0
-Writes n old r new = (r ≡ writeAnswer (wordsReasons n) (wordsText n) old) × (new ≡ writeLeaves (wordsReasons n) (wordsText n) old)
+Writes n old r new = (r ≡ writeAnswer (wordsRefusal n) (wordsText n) old) × (new ≡ writeLeaves (wordsRefusal n) (wordsText n) old)
 
 module _ (n : ℕ) (old : List ℕ) where
   -- a number of the table has its words stored
   pub words-stored : (k : ℕ) (t : List ℕ) → n ≡ k → refusalWords k ≡ some t → {r : Answer ℕ} {new : List ℕ}
-      → (r ≡ writeAnswer [] t old) × (new ≡ writeLeaves [] t old) → Writes n old r new
-  unfolding writeAnswer writeLeaves
+      → (r ≡ writeAnswer 0 t old) × (new ≡ writeLeaves 0 t old) → Writes n old r new
+  unfolding wordsRefusal writeAnswer writeLeaves
   words-stored k t e w p = rw (e, w) p
 
   -- any other is refused
   pub words-refused : refusalWords n ≡ none → Writes n old (refuses 0 Malformed) old
-  unfolding writeAnswer writeLeaves
+  unfolding wordsRefusal writeAnswer writeLeaves
   words-refused w = rw w (refl, refl)
 
 -- a number that is none of 1 to 9, as a match tells it, is not of the table
@@ -103,16 +103,35 @@ no-words n h =
 
 -- ---- the reason against a number
 
-pub no-reason : (t : Bool) → (refusal ((2, t) ∷ []) ≡ 0) ↔ (t ≡ false)
-unfolding refusal
-no-reason true = (λ e. absurd (omega arith), λ e. absurd (false≢true (sym e)))
-no-reason false = (λ e. refl, λ e. refl)
+module _ (n : ℕ) where
+  -- where a number has no words, it is refused by 2, and else by nothing
+  abbrev by2 : Bool → ℕ
+  by2 t = cond t 2 0
 
-pub first-2 : (t short : Bool) → (refusal ((3, short) ∷ (2, t) ∷ []) ≡ 2) ↔ (t ≡ true)
-unfolding refusal
-first-2 true short = (λ e. refl, λ e. refl)
-first-2 false true = (λ e. absurd (omega arith), λ e. absurd (false≢true e))
-first-2 false false = (λ e. absurd (omega arith), λ e. absurd (false≢true e))
+  pub no-reason : (wordsRefusal n ≡ 0) ↔ (missing (refusalWords n) ≡ false)
+  unfolding wordsRefusal
+  no-reason = go (missing (refusalWords n))
+    where
+      go : (t : Bool) → (by2 t ≡ 0) ↔ (t ≡ false)
+      go true = (λ e. absurd (omega arith), λ e. absurd (false≢true (sym e)))
+      go false = (λ e. refl, λ e. refl)
+
+  pub not-3 : ¬ (wordsRefusal n ≡ 3)
+  unfolding wordsRefusal
+  not-3 = go (missing (refusalWords n))
+    where
+      go : (t : Bool) → ¬ (by2 t ≡ 3)
+      go true e = omega arith
+      go false e = omega arith
+
+  pub refused-2 : (bytes old : List ℕ) → (writeRefusal (wordsRefusal n) bytes old ≡ 2) ↔ (missing (refusalWords n) ≡ true)
+  unfolding wordsRefusal
+  refused-2 bytes old = go (missing (refusalWords n)) (ltb (length old) (length bytes))
+    where
+      go : (t short : Bool) → (cond (eqb (by2 t) 0) (cond short 3 0) (by2 t) ≡ 2) ↔ (t ≡ true)
+      go true short = (λ e. refl, λ e. refl)
+      go false true = (λ e. absurd (omega arith), λ e. absurd (false≢true e))
+      go false false = (λ e. absurd (omega arith), λ e. absurd (false≢true e))
 
 pub not-false : (t : Bool) → ¬ (t ≡ false) → t ≡ true
 not-false true n = refl

@@ -1,11 +1,11 @@
 -- The refusals in words (01, "Why a call says no"). Assumes nothing.
-use mathlib.Core.Bool.{Bool, cond}
+use mathlib.Core.Bool.{cond}
 use mathlib.Core.List.{List, [], _∷_}
 use mathlib.Core.Option.{Option, some, none, Option·getD}
 use Prim.Native.Nat.{ℕ}
 use lib.Dec.{eqb}
 use Rattle.notation.specs.Ascii.{ascii}
-use Rattle.address.specs.Answers.{missing}
+use Rattle.address.specs.Answers.{missing, precedence, refusal}
 
 -- the table's numbers, each with its words
 abbrev pub table : List (ℕ × List ℕ)
@@ -34,5 +34,6 @@ refusalWords n = wordsIn n table
 abbrev pub wordsText : ℕ → List ℕ
 wordsText n = Option·getD (refusalWords n) []
 
-abbrev pub wordsReasons : ℕ → List (ℕ × Bool)
-wordsReasons n = (2, missing (refusalWords n)) ∷ []
+unfoldable pub wordsRefusal : ℕ → ℕ
+unfolding refusal
+wordsRefusal n = refusal precedence ((2, missing (refusalWords n)) ∷ [])

@@ -4,7 +4,8 @@ use native.Mathlib.Omega.{arith}
 use borrow.Author.Needs.{needs}
 use lib.ListN.{length, take}
 use Rattle.address.specs.Answers.{checkNumber}
-use Rattle.address.proofs.BlockLaws.{write-valid, write-refused}
+use Rattle.address.specs.Blocks.{blockRefusal}
+use Rattle.address.proofs.AnswerLaws.{write-none, write-other}
 use Rattle.output.proofs.PlacingLaws.{puts-whole}
 use Rattle.blocks.specs.BlockText.{blockText}
 use Rattle.blocks.proofs.BlockTextLaws.{text-most}
@@ -45,7 +46,7 @@ returns : tie.Need-returns
 returns c =
     let e = c .before in
     let k = e .before .before in
-    write-refused (k .before .before .args .block) _ _ (e .e .given .0 .0) (ap checkNumber (sym (e .e .given .1)) ∙ k .check .ensures)
+    write-other (blockRefusal (k .before .before .args .block)) _ _ (e .e .given .0 .0) (ap checkNumber (sym (e .e .given .1)) ∙ k .check .ensures)
 
 same-length : tie.Need-same-length
 same-length c = search needs
@@ -56,7 +57,7 @@ returns-2 c =
     let put = stored .before .before .before .before in
     let told = put .before .before in
     let k = told .before .before in
-    rw (← whole put .1) (write-valid (k .before .before .args .block) _ _ (sym (k .check .ensures) ∙ ap checkNumber (told .enum-told .given .1)) (stored .store .ensures))
+    rw (← whole put .1) (write-none (blockRefusal (k .before .before .args .block)) _ _ (sym (k .check .ensures) ∙ ap checkNumber (told .enum-told .given .1)) (stored .store .ensures))
 
 pub write-block-spec : {M : Type 1} → statement M
 write-block-spec =

@@ -13,7 +13,7 @@ use lib.ListN.{length}
 use Rattle.notation.specs.Pieces.{splitOn}
 use Rattle.notation.proofs.SliceLaws.{to-end-shorter}
 use Rattle.address.specs.declared.Refusal.the-variants.{Malformed}
-use Rattle.address.specs.Answers.{refuses, noAddress, readAnswer}
+use Rattle.address.specs.Answers.{precedence, refuses, noAddress, readAnswer}
 use Rattle.digits.specs.declared.read.Leading.the-variants.{Number}
 use Rattle.ipv4_text.proofs.DottedLaws.{room}
 use Rattle.loose.specs.Inner.{leadingLoose}
@@ -68,7 +68,7 @@ returns-3 c =
     let a = p .before .before .before .before in
     let l = a .loop in
     c .last-part .ensures
-    ∙ ap (readAnswer noAddress []) (sym (l .inv .3 ∙ loose-end (l .left) (l .value) (p .before .before .before .loop-test .taken) (now (l .rest)) (p .part .given .0 .0) (p .part .given .0 .1 .0) (read p) (c .before .if2 .taken)))
+    ∙ ap (readAnswer precedence noAddress []) (sym (l .inv .3 ∙ loose-end (l .left) (l .value) (p .before .before .before .loop-test .taken) (now (l .rest)) (p .part .given .0 .0) (p .part .given .0 .1 .0) (read p) (c .before .if2 .taken)))
     ∙ loose-read (now (a .before .before .before .args .text)) (a .before .if1 .left)
 
 shared-slice-read-if3 : tie.Need-shared-slice-read-if3 Inv-loop μ-loop

@@ -1,13 +1,16 @@
 -- `network::write_network` meets its contract. Assumes nothing.
-use mathlib.Core.Path.{_≡_, sym, ap, _∙_}
+use mathlib.Core.Path.{_≡_, refl, sym, ap, _∙_}
 use mathlib.Core.List.{List}
 use Prim.Native.Nat.{ℕ}
 use native.Mathlib.Omega.{arith}
 use borrow.Author.Needs.{needs}
 use lib.ListN.{length, take}
+use Rattle.address.specs.declared.Address.the-variants.{V4}
+use Rattle.address.specs.declared.Refusal.the-variants.{LengthTooLarge, WrongFamily}
+use Rattle.address.proofs.AnswerLaws.{write-none, write-other}
 use Rattle.output.proofs.PlacingLaws.{puts-whole}
 use Rattle.network.specs.NetworkText.{networkText}
-use Rattle.network.proofs.TextLaws.{text-most, write-6, write-large, write-sized}
+use Rattle.network.proofs.TextLaws.{text-most, no-reason, write-6, write-large}
 use Rattle.network.proofs.write_network.Statement.{statement}
 use Rattle.network.proofs.write_network.Tie as tie
 
@@ -21,13 +24,13 @@ returns : tie.Need-returns
 returns c =
     let start = c .before .before .before in
     let a = c .enum-told .given in
-    rw (a .1) (write-6 (start .args .size) _ _ (a .0 .0) (a .0 .1 .0))
+    rw (a .1) (write-other _ _ _ WrongFamily (write-6 (a .0 .0) (a .0 .1 .0) (start .args .size)))
 
 returns-2 : tie.Need-returns-2
 returns-2 c =
     let start = c .before .before .before .before .before in
     let a = c .before .before .address .given in
-    rw (a .1) (write-large (start .args .size) _ _ (a .0 .0) (c .if1 .taken))
+    rw (a .1) (write-other _ _ _ LengthTooLarge (write-large (a .0 .0) (start .args .size) (c .if1 .taken)))
 
 slice-aggregate-put-network : tie.Need-slice-aggregate-put-network
 slice-aggregate-put-network c = search needs
@@ -63,7 +66,7 @@ returns-3 c =
     let sized = put .before .before in
     let a = sized .before .before .address .given in
     let start = sized .before .before .before .before .before in
-    rw (a .1, ← whole put .1) (write-sized (start .args .size) _ _ (a .0 .0) (sized .if1 .left) (stored .store .ensures))
+    rw (a .1, ← whole put .1) (write-none _ _ _ (no-reason (V4 (a .0 .0)) (start .args .size) .1 (refl, sized .if1 .left)) (stored .store .ensures))
 
 pub write-network-spec : {M : Type 1} → statement M
 write-network-spec =
