@@ -8,8 +8,8 @@ use native.Mathlib.Decide.{decLe, decLt}
 use native.Mathlib.Omega.{arith}
 use lib.Pow.{pow-lt}
 use lib.ListN as L
-use Rattle.cover.specs.Blocks.{Block, IsBlock, CoversAt, CoveredBy, AllBlocks, Rising, Fewest, Inside, Next, Greedy, done, next, size, end}
-use Rattle.cover.proofs.Interval.{block-path, size-pos, end-le, covers→within, within→covers, covers-first, covers-last, inner-end, outer-start}
+use Rattle.cover.specs.Blocks.{Block, IsBlock, CoversAt, CoveredBy, AllBlocks, Rising, Fewest, Inside, Next, Greedy, done, next, size, after}
+use Rattle.cover.proofs.Interval.{block-path, size-pos, after-le, covers→within, within→covers, covers-first, covers-last, inner-after, outer-start}
 
 -- ---- lists of blocks
 
@@ -19,7 +19,7 @@ covered-below W (b ∷ bs) zero x c = c .below
 covered-below W (b ∷ bs) (suc i) x c = covered-below W bs i x c
 
 -- what lies behind the first block is covered by the others
-pub uncover : {W : ℕ} (c : Block) (cs : List Block) (x : ℕ) → IsBlock W c → end W c ≤ x → CoveredBy W (c ∷ cs) x → CoveredBy W cs x
+pub uncover : {W : ℕ} (c : Block) (cs : List Block) (x : ℕ) → IsBlock W c → after W c ≤ x → CoveredBy W (c ∷ cs) x → CoveredBy W cs x
 uncover c cs x C l (zero, h) = let w = covers→within C h in absurd (omega arith)
 uncover c cs x C l (suc i, h) = (i, h)
 
@@ -58,10 +58,10 @@ module _ {W : ℕ} {S : ℕ → Type 0} where
   pub greedy-covers : {a : ℕ} {bs : List Block} → Greedy W S a bs → (x : ℕ) → x < 2 ^ W → S x → a ≤ x → CoveredBy W bs x
   greedy-covers (done e) x h s l = absurd (e x l h s)
   greedy-covers (next {b = b} {bs = bs} n t) x h s l =
-      let rest : end W b ≤ x → CoveredBy W bs x = greedy-covers t x h s in
+      let rest : after W b ≤ x → CoveredBy W bs x = greedy-covers t x h s in
       elim (decLt x (b .address)) [
         | yes k ↦ absurd (n .lowest x l k s)
-        | no m ↦ elim (decLt x (end W b)) [
+        | no m ↦ elim (decLt x (after W b)) [
           | yes k ↦ (zero, within→covers (n .block) (record { low = omega arith; high = k }))
           | no k ↦ let r = rest (omega arith) in (suc (r .0), r .1)
         ]
@@ -90,7 +90,7 @@ module _ {W : ℕ} {S : ℕ → Type 0} where
 -- no block of the list has addresses on both sides of a
 abbrev pub Clear : ℕ → ℕ → List Block → Type 0
 Clear W a [] = Unit {0}
-Clear W a (c ∷ cs) = ((end W c ≤ a) ⊎ (a ≤ c .address)) × Clear W a cs
+Clear W a (c ∷ cs) = ((after W c ≤ a) ⊎ (a ≤ c .address)) × Clear W a cs
 
 clear-zero : (W : ℕ) (cs : List Block) → Clear W 0 cs
 clear-zero W [] = tt
@@ -106,17 +106,17 @@ record Rival (W : ℕ) (S : ℕ → Type 0) (a : ℕ) (cs : List Block) : Type 0
 
 module _ {W : ℕ} {S : ℕ → Type 0} where
   -- a block of S that starts in the next block b ends in it
-  next-holds : {a : ℕ} {b c : Block} → Next W S a b → IsBlock W c → Inside W S c → b .address ≤ c .address → c .address < end W b → end W c ≤ end W b
+  next-holds : {a : ℕ} {b c : Block} → Next W S a b → IsBlock W c → Inside W S c → b .address ≤ c .address → c .address < after W b → after W c ≤ after W b
   next-holds {b = b} {c = c} n C s low high = elim (decLe (b .length) (c .length)) [
-    | yes l ↦ inner-end (n .block) C l high
+    | yes l ↦ inner-after (n .block) C l high
     | no m ↦ absurd (m (n .largest c C (outer-start (n .block) C (omega arith) low high) s))
   ]
 
   clear-next : {a : ℕ} {b : Block} → Next W S a b → (cs : List Block) → AllBlocks W cs → ((i x : ℕ) → CoversAt W cs i x → S x)
-      → ((i x : ℕ) → CoversAt W cs i x → b .address ≤ x) → Clear W (end W b) cs
+      → ((i x : ℕ) → CoversAt W cs i x → b .address ≤ x) → Clear W (after W b) cs
   clear-next n [] C s l = tt
   clear-next {b = b} n (c ∷ cs) C s l = (
-    elim (decLt (c .address) (end W b)) [
+    elim (decLt (c .address) (after W b)) [
       | yes h ↦ inl (next-holds n (C .0) (s 0) (l 0 (c .address) (covers-first (C .0))) h)
       | no m ↦ inr (omega arith)
     ],
@@ -124,7 +124,7 @@ module _ {W : ℕ} {S : ℕ → Type 0} where
   )
 
   -- a first block below a is of no use
-  rival-skip : {a : ℕ} {c : Block} {cs : List Block} → Rival W S a (c ∷ cs) → end W c ≤ a → Rival W S a cs
+  rival-skip : {a : ℕ} {c : Block} {cs : List Block} → Rival W S a (c ∷ cs) → after W c ≤ a → Rival W S a cs
   rival-skip {c = c} {cs = cs} r l = record {
     blocks = r .blocks .1;
     rising = rising-tail c cs (r .rising);
@@ -146,10 +146,10 @@ module _ {W : ℕ} {S : ℕ → Type 0} where
     rival-length = n .largest c (r .blocks .0) rival-start (r .inside 0)
 
     -- the others rival the greedy list behind b
-    rival-next : Rival W S (end W b) cs
+    rival-next : Rival W S (after W b) cs
     rival-next =
         let e = rival-start in
-        let ends = inner-end (n .block) (r .blocks .0) rival-length (omega (arith, size-pos W b)) in
+        let ends = inner-after (n .block) (r .blocks .0) rival-length (omega (arith, size-pos W b)) in
         record {
           blocks = r .blocks .1;
           rising = rising-tail c cs (r .rising);
@@ -159,17 +159,17 @@ module _ {W : ℕ} {S : ℕ → Type 0} where
         }
 
     -- if they are that list, the first block is b: were it smaller, nothing would cover the last address of b
-    rival-first : {bs : List Block} → Greedy W S (end W b) bs → cs ≡ bs → c ≡ b
+    rival-first : {bs : List Block} → Greedy W S (after W b) bs → cs ≡ bs → c ≡ b
     rival-first {bs} t p = block-path c b rival-start (omega (arith, rival-length, whole))
       where
         x : ℕ
-        x = end W b - 1
+        x = after W b - 1
 
         pos : 0 < size W b
         pos = size-pos W b
 
         whole : ¬ (b .length < c .length)
-        whole h = lost (r .covers x (omega (arith, end-le (n .block), pos)) (n .inside x (covers-last (n .block))) (omega (arith, n .above, pos)))
+        whole h = lost (r .covers x (omega (arith, after-le (n .block), pos)) (n .inside x (covers-last (n .block))) (omega (arith, n .above, pos)))
           where
             lost : CoveredBy W (c ∷ cs) x → ⊥
             lost (zero, q) =

@@ -11,7 +11,7 @@ use borrow.Author.Tests.{leb-true, eqb-true, le-leb, lt-leb, eq-eqb}
 use lib.Dec.{leb, eqb}
 use lib.Pow.{pow-pos, pow-mono}
 use Rattle.wide.proofs.Aligned.{Aligned, aligned-mono, aligned-nothing}
-use Rattle.cover.specs.Blocks.{Block, IsBlock, Fewest, Range, mayStart, largest, blocksFrom, rangeBlocks, Next, Greedy, done, next, size, end}
+use Rattle.cover.specs.Blocks.{Block, IsBlock, Fewest, Range, mayStart, largest, blocksFrom, rangeBlocks, Next, Greedy, done, next, size, after}
 use Rattle.cover.proofs.Greatest.{greatest-le, greatest-passes, greatest-max}
 use Rattle.cover.proofs.Interval.{covers→within, covers-last}
 use Rattle.cover.proofs.Greedy.{greedy-lower, greedy-fewest}
@@ -51,7 +51,7 @@ pub largest-max : (W a last k : ℕ) → k ≤ W → MayStart a last k → k ≤
 unfolding largest
 largest-max W a last k l h = greatest-max (mayStart a last) W k l (→may a last k h)
 
--- a size that may start is the largest if it is W, or the next may not
+-- an exponent that may start is the largest if it is W, or the next may not
 pub largest-is : (W a last k : ℕ) → k ≤ W → MayStart a last k → (k ≡ W) ⊎ (¬ MayStart a last (suc k)) → largest W a last ≡ k
 largest-is W a last k l h top =
     let up = largest-max W a last k l h in
@@ -140,7 +140,7 @@ next-largest W first last a top low high = record {
   above = le-refl a;
   lowest = λ x h l s. omega arith;
   inside = λ x c. let w = covers→within block c in (omega (arith, w .low), omega (arith, w .high, f .room, sizes));
-  largest = λ c C e s. bound c C e (s (end W c - 1) (covers-last C));
+  largest = λ c C e s. bound c C e (s (after W c - 1) (covers-last C));
 }
   where
     k : ℕ
@@ -158,7 +158,7 @@ next-largest W first last a top low high = record {
     block : IsBlock W (blockAt W a k)
     block = record { short = omega arith; below = omega arith; aligned = rw sizes (f .aligned) }
 
-    bound : (c : Block) → IsBlock W c → c .address ≡ a → Range first last (end W c - 1) → W - k ≤ c .length
+    bound : (c : Block) → IsBlock W c → c .address ≡ a → Range first last (after W c - 1) → W - k ≤ c .length
     bound c C e s =
         let j = W - c .length in
         let p = pow-pos j in

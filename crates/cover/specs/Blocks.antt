@@ -13,7 +13,7 @@ pub record Block : Type 0 where
   pub address : ℕ
   pub length : ℕ
 
--- how many addresses have the same first (length) bits
+-- how many addresses a block has: those with the same first (length) bits
 abbrev pub size : ℕ → Block → ℕ
 size W b = 2 ^ (W - b .length)
 
@@ -31,8 +31,8 @@ pub record Covers (W : ℕ) (b : Block) (x : ℕ) : Type 0 where
   pub agrees : x / size W b ≡ b .address / size W b
 
 -- the address after the block's last
-abbrev pub end : ℕ → Block → ℕ
-end W b = b .address + size W b
+abbrev pub after : ℕ → Block → ℕ
+after W b = b .address + size W b
 
 -- ---- lists of blocks
 
@@ -88,7 +88,7 @@ pub record Next (W : ℕ) (S : ℕ → Type 0) (a : ℕ) (b : Block) : Type 0 wh
 -- the list is next block after next block of S, from a on, until nothing of S is left over
 pub data Greedy (W : ℕ) (S : ℕ → Type 0) : ℕ → List Block → Type 0 where
   done : {a : ℕ} → ((x : ℕ) → a ≤ x → x < 2 ^ W → ¬ S x) → Greedy W S a []
-  next : {a : ℕ} {b : Block} {bs : List Block} → Next W S a b → Greedy W S (end W b) bs → Greedy W S a (b ∷ bs)
+  next : {a : ℕ} {b : Block} {bs : List Block} → Next W S a b → Greedy W S (after W b) bs → Greedy W S a (b ∷ bs)
 
 -- ---- sizes
 
@@ -112,7 +112,7 @@ unfoldable pub greatest : (ℕ → Bool) → ℕ → ℕ
 greatest test zero = zero
 greatest test (suc m) = elim (test (suc m)) [ true ↦ suc m | false ↦ greatest test m ]
 
--- the largest k up to W for which that is so; 0 where a is above last
+-- the largest exponent k up to W for which that is so; 0 where a is above last
 unfoldable pub largest : ℕ → ℕ → ℕ → ℕ
 unfolding greatest
 largest W a last = greatest (mayStart a last) W
