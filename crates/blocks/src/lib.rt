@@ -46,7 +46,8 @@ pub fn read_block(text: &[u8]) -> BlockReading
     block.checked()
 }
 
-// Puts the text of any block value at an index of the text, as far as there is room, and answers the next index.
+// Puts the text of any block value at an index of the text, and answers the next index. It stands outside 01, whose writer is
+// `write_block`: a value that breaks a rule is put as any other, and a text without room is cut, where 01 gives refusals 4, 5 and 3.
 pub fn put_block(text: &mut [u8], at: usize, block: Block) -> usize
     ensures { λ r. ⌜ Puts (now (text .entry)) (now (text .exit)) at r (blockText block) ⌝ }
 {

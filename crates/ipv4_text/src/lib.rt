@@ -56,7 +56,8 @@ pub fn read_dotted(text: &[u8]) -> Dotted
     Dotted::Value(value)
 }
 
-// Puts the four octets of a number in decimal, with dots between them, as far as there is room. Answers the next index.
+// Puts the four octets of a number in decimal, with dots between them, and answers the next index. As `put`, it stands outside 01: a text
+// without room is cut.
 pub fn put_dotted(text: &mut [u8], at: usize, v: u32) -> usize
     ensures { λ r. ⌜ Puts (now (text .entry)) (now (text .exit)) at r (dottedText v) ⌝ }
 {

@@ -12,7 +12,8 @@ use store::store;
 
 mod build;
 
-// Puts the normal text of an address at an index of the text, as far as there is room, and answers the next index.
+// Puts the normal text of an address at an index of the text, and answers the next index. It stands outside 01, whose writer is
+// `write_address`: a text without room is cut, where 01 gives refusal 3.
 pub fn put_address(text: &mut [u8], at: usize, address: Address) -> usize
     ensures { λ r. ⌜ Puts (now (text .entry)) (now (text .exit)) at r (normalText address) ⌝ }
 {

@@ -24,7 +24,7 @@ programText input = linesText (splitOn 10 input)
 
 -- ---- a line that is not finished
 
--- the bytes that a state holds
+-- the bytes that a state holds. What a contract says of a state it says of these: the other bytes are free, and a length above 130 is 130.
 abbrev pub pendingText : Pending → List ℕ
 pendingText p = take (min (p .len) 130) (p .bytes)
 

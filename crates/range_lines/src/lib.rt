@@ -8,7 +8,7 @@ use digits::read::find;
 use range_text::put_answer;
 
 // A line that is not finished: its first bytes, at most 130. More are not kept, since a line of more than 129 bytes is refused
-// whatever it holds.
+// whatever it holds. The bytes behind the first `len` are free, and a `len` above 130 stands for 130: no call's answer depends on either.
 pub struct Pending {
     pub len: usize,
     pub bytes: [u8; 130],
@@ -65,7 +65,8 @@ fn put_line(pending: Pending, more: &[u8], out: &mut [u8], at: usize) -> usize
     put_answer(out, at, &bytes[..len])
 }
 
-// Takes a piece of the input up to the end of its first line, and puts the answer to that line; or all of it, where it ends no line.
+// Takes a piece of the input up to the end of its first line, and puts the answer to that line; or all of it, where it ends no line. As
+// `put_answer`, it stands outside 01: an answer without room is cut.
 pub fn take_line(pending: Pending, piece: &[u8], out: &mut [u8], at: usize) -> Turn
     ensures { λ r. ⌜ Puts (now (out .entry)) (now (out .exit)) at (r .next) (turnText (pendingText pending) (now (piece .entry))) × (r .used ≡ turnUsed (now (piece .entry))) × (pendingText (r .pending) ≡ turnLeft (pendingText pending) (now (piece .entry))) ⌝ }
 {
@@ -85,7 +86,7 @@ pub fn take_line(pending: Pending, piece: &[u8], out: &mut [u8], at: usize) -> T
     }
 }
 
-// Puts the answer to a last line without its newline, if one is begun.
+// Puts the answer to a last line without its newline, if one is begun. An answer without room is cut, as by `take_line`.
 pub fn finish(pending: Pending, out: &mut [u8], at: usize) -> usize
     ensures { λ r. ⌜ Puts (now (out .entry)) (now (out .exit)) at r (linesText (pendingText pending ∷ [])) ⌝ }
 {

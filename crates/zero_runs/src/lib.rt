@@ -14,7 +14,7 @@ pub fn longest_run(groups: [u16; 8]) -> Run
     let mut best: usize = 0;
     let mut length: usize = 0;
     let mut start: usize = 0;
-    'starts: while start < 8 {
+    while start < 8 {
         let mut end = start;
         'run: while end < 8 {
             if groups[end] != 0 {

@@ -16,31 +16,31 @@ Inv-run groups best n start end₀ end = (start ≤ end) × (end ≤ 8) × (zero
 abbrev μ-run : tie.MeasureT-run
 μ-run groups best n start end₀ end = 8 - end
 
-abbrev Inv-starts : tie.InvT-starts
-Inv-starts groups best₀ n₀ start₀ best n start = (start ≤ 8) × Best groups start best n
+abbrev Inv-loop : tie.InvT-loop
+Inv-loop groups best₀ n₀ start₀ best n start = (start ≤ 8) × Best groups start best n
 
-abbrev μ-starts : tie.MeasureT-starts
-μ-starts groups best₀ n₀ start₀ best n start = 8 - start
+abbrev μ-loop : tie.MeasureT-loop
+μ-loop groups best₀ n₀ start₀ best n start = 8 - start
 
-starts-holds : tie.Need-starts-holds Inv-run μ-run Inv-starts μ-starts
-starts-holds c = (search needs, best-none _)
+loop-holds : tie.Need-loop-holds Inv-run μ-run Inv-loop μ-loop
+loop-holds c = (search needs, best-none _)
 
-run-holds : tie.Need-run-holds Inv-run μ-run Inv-starts μ-starts
+run-holds : tie.Need-run-holds Inv-run μ-run Inv-loop μ-loop
 run-holds c = search needs
 
-mul-if1 : tie.Need-mul-if1 Inv-run μ-run Inv-starts μ-starts
+mul-if1 : tie.Need-mul-if1 Inv-run μ-run Inv-loop μ-loop
 mul-if1 c = search needs
 
-array-read-if1 : tie.Need-array-read-if1 Inv-run μ-run Inv-starts μ-starts
+array-read-if1 : tie.Need-array-read-if1 Inv-run μ-run Inv-loop μ-loop
 array-read-if1 c = search needs
 
-add-end : tie.Need-add-end Inv-run μ-run Inv-starts μ-starts
+add-end : tie.Need-add-end Inv-run μ-run Inv-loop μ-loop
 add-end c = search needs
 
-run-less : tie.Need-run-less Inv-run μ-run Inv-starts μ-starts
+run-less : tie.Need-run-less Inv-run μ-run Inv-loop μ-loop
 run-less c = search needs
 
-run-again : tie.Need-run-again Inv-run μ-run Inv-starts μ-starts
+run-again : tie.Need-run-again Inv-run μ-run Inv-loop μ-loop
 run-again c =
     let e = c .before .before in
     let gs = e .before .before .before .args .t1 in
@@ -49,8 +49,8 @@ run-again c =
     (search needs, search needs, omega (arith, z, e .run .inv .2))
 
 -- where the inner loop is left, the run has been passed
-passed : (c : tie.Left-run Inv-run μ-run Inv-starts μ-starts)
-    → zerosOf (drop (c .before .before .before .starts .start) (c .before .before .before .before .args .t1)) ≡ c .before .run .end - c .before .before .before .starts .start
+passed : (c : tie.Left-run Inv-run μ-run Inv-loop μ-loop)
+    → zerosOf (drop (c .before .before .before .loop .start) (c .before .before .before .before .args .t1)) ≡ c .before .run .end - c .before .before .before .loop .start
 passed c =
     let gs = c .before .before .before .before .args .t1 in
     let end = c .before .run .end in
@@ -61,24 +61,24 @@ passed c =
     (λ w. let z = ends gs end (omega arith) (w .1 .taken) in omega arith)
     (c .run-test .came)
 
-sub-if2 : tie.Need-sub-if2 Inv-run μ-run Inv-starts μ-starts
+sub-if2 : tie.Need-sub-if2 Inv-run μ-run Inv-loop μ-loop
 sub-if2 c = search needs
 
-sub-length : tie.Need-sub-length Inv-run μ-run Inv-starts μ-starts
+sub-length : tie.Need-sub-length Inv-run μ-run Inv-loop μ-loop
 sub-length c = search needs
 
-add-start : tie.Need-add-start Inv-run μ-run Inv-starts μ-starts
+add-start : tie.Need-add-start Inv-run μ-run Inv-loop μ-loop
 add-start c = search needs
 
-starts-less : tie.Need-starts-less Inv-run μ-run Inv-starts μ-starts
-starts-less c = search needs
+loop-less : tie.Need-loop-less Inv-run μ-run Inv-loop μ-loop
+loop-less c = search needs
 
-starts-again : tie.Need-starts-again Inv-run μ-run Inv-starts μ-starts
-starts-again c =
+loop-again : tie.Need-loop-again Inv-run μ-run Inv-loop μ-loop
+loop-again c =
     let s = c .before .before .before .before in
     let gs = s .before .args .t1 in
     let l : length gs ≡ 8 = search needs in
-    let b = s .starts .inv .1 in (
+    let b = s .loop .inv .1 in (
       search needs,
       ⊎-elim
           (λ w. rw (w .1, w .2) (best-new gs b (passed (c .before)) (omega arith) (w .0 .taken)))
@@ -86,11 +86,11 @@ starts-again c =
           (c .if2 .came),
     )
 
-returns : tie.Need-returns Inv-run μ-run Inv-starts μ-starts
+returns : tie.Need-returns Inv-run μ-run Inv-loop μ-loop
 returns c =
     let gs = c .before .before .args .t1 in
     let l : length gs ≡ 8 = search needs in
-    best-all gs (c .before .starts .inv .1) (omega arith)
+    best-all gs (c .before .loop .inv .1) (omega arith)
 
 pub longest-run-spec : {M : Type 1} → statement M
 longest-run-spec =
@@ -98,9 +98,9 @@ longest-run-spec =
     (tie.spec
     Inv-run
     μ-run
-    Inv-starts
-    μ-starts
-    starts-holds
+    Inv-loop
+    μ-loop
+    loop-holds
     run-holds
     mul-if1
     array-read-if1
@@ -110,6 +110,6 @@ longest-run-spec =
     sub-if2
     sub-length
     add-start
-    starts-less
-    starts-again
+    loop-less
+    loop-again
     returns)
