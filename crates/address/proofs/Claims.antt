@@ -8,7 +8,7 @@ use native.Mathlib.Decide.{decLe, decLt, ℕ-discrete}
 use native.Mathlib.Omega.{arith}
 use borrow.Author.Tests.{eqb-true, ltb-true, eq-eqb, ne-eqb}
 use lib.Arith.{digits-lt}
-use lib.Dec.{eqb, ltb}
+use lib.Dec.{eqb, ltb, lit<}
 use lib.ListN.{length, take, drop, getD, replicate}
 use lib.Pow.{high, low}
 use Rattle.wide.proofs.Aligned.{aligned-nothing}
@@ -71,6 +71,18 @@ pub none-holds : (conditions : List (ℕ × Bool)) → map (λ c. c .1) conditio
 unfolding firstOf
 none-holds [] h = refl
 none-holds ((m, t) ∷ conditions) h = rw (ap (λ ts. getD ts 0 false) h) (none-holds conditions (ap (drop 1) h))
+
+-- 01's order has every refusal, so that none whose condition holds is passed over.
+pub every-judged : (e : Refusal) → (i : ℕ) × (i < length precedence) × (getD precedence i 0 ≡ refusalNumber e)
+every-judged TextTooLong = (1, lit< tt, refl)
+every-judged Malformed = (2, lit< tt, refl)
+every-judged NoRoom = (8, lit< tt, refl)
+every-judged LengthTooLarge = (3, lit< tt, refl)
+every-judged BitsBeyondLength = (4, lit< tt, refl)
+every-judged NoClass = (5, lit< tt, refl)
+every-judged HostTooLarge = (6, lit< tt, refl)
+every-judged FirstAboveLast = (7, lit< tt, refl)
+every-judged WrongFamily = (0, lit< tt, refl)
 
 module _ (reasons : List (ℕ × Bool)) where
   -- A call's refusal is one that holds, whatever the order.
