@@ -22,7 +22,7 @@ use Rattle.address.specs.declared.Refusal.the-variants.{TextTooLong, Mal
 use Rattle.address.specs.declared.Reading.{Reading}
 use Rattle.address.specs.declared.Writing.{Writing}
 use Rattle.address.specs.declared.BlockReading.{BlockReading}
-use Rattle.address.specs.Answers.{Answer, refusalNumber, firstOf, holds, inOrder, refusal, precedence, gives, refuses, noAddress, noBlock, readingAnswer, writingAnswer, blockAnswer, writeRefusal, writeAnswer, writeLeaves}
+use Rattle.address.specs.Answers.{Answer, Cases, given, not-given, refusalNumber, firstOf, holds, inOrder, refusal, precedence, gives, refuses, noAddress, noBlock, readingAnswer, writingAnswer, blockAnswer, writeRefusal, writeAnswer, writeLeaves}
 use Rattle.address.specs.Addresses.{IsAddress, family, width, number, addressOrder, sameAddress}
 use Rattle.address.specs.Blocks.{numbered, tooLong, bitsBeyond, blockRefusal, sameBlock}
 use Rattle.address.specs.declared.Reading.the-variants as reading
@@ -139,11 +139,6 @@ module _ (n : ℕ) (bytes old : List ℕ) where
   good-exactly = (λ e. (laws.good-no-reason n bytes old (length bytes) e, written-held (length bytes) e .2), λ p. laws.write-good n bytes old (p .0) (p .1))
 
 -- ---- a promise about the paper's answer fixes the code's answer
-
--- the two cases of an enum that answers a value or a refusal
-pub data Cases {A R : Type 0} (value : A → R) (refused : Refusal → R) : R → Type 0 where
-  given : (a : A) → Cases value refused (value a)
-  not-given : (e : Refusal) → Cases value refused (refused e)
 
 module _ {A : Type 0} where
   pub gives-one : {a b : A} → gives a ≡ gives b → a ≡ b

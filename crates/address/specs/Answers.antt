@@ -83,6 +83,11 @@ noBlock = record { address = noAddress; length = 0 }
 
 -- ---- each answer of the code in the paper's terms
 
+-- the two cases of an enum that answers a value or a refusal
+pub data Cases {A R : Type 0} (value : A → R) (refused : Refusal → R) : R → Type 0 where
+  given : (a : A) → Cases value refused (value a)
+  not-given : (e : Refusal) → Cases value refused (refused e)
+
 abbrev pub readingAnswer : Reading → Answer Address
 readingAnswer (reading.Read a) = gives a
 readingAnswer (reading.Refused e) = refuses noAddress e

@@ -1,5 +1,5 @@
 -- What 01, "Classes", and demand 2 ask of splitting and joining. Assumes nothing.
-use mathlib.Core.Logic.{_⊎_, inl, inr, _↔_}
+use mathlib.Core.Logic.{_⊎_, _↔_}
 use mathlib.Core.Path.{_≡_, refl, sym, ap, ap₂, subst, _∙_}
 use mathlib.Core.Option.{some}
 use Prim.Native.Nat.{ℕ, _+_, _-_, _*_, _/_, _%_, _^_, _≤_, _<_}
@@ -9,15 +9,16 @@ use Rattle.address.specs.declared.Address.{Address}
 use Rattle.address.specs.declared.Address.the-variants.{V4, V6}
 use Rattle.address.specs.declared.Refusal.the-variants.{NoClass}
 use Rattle.address.specs.Addresses.{IsAddress, family, number}
-use Rattle.address.specs.Answers.{Answer, gives, refuses}
-use Rattle.address.proofs.Claims.{Cases, given, not-given, one-answer}
+use Rattle.address.specs.Answers.{Answer, gives, refuses, Cases, given, not-given}
+use Rattle.address.proofs.Claims.{one-answer}
 use Rattle.classes.specs.Classes.{Class, classA, classB, classC, classOf, networkClass, hosts, splitAnswer, splittingAnswer, joinAnswer}
-use Rattle.classes.specs.ClassTable.{SplitCall, class-A, class-B, class-C, bits-111, not-IPv4, Row, JoinCall, no-class, host-too-large, joined}
+use Rattle.classes.specs.ClassTable.{SplitCall, bits-111, Row, JoinCall}
 use Rattle.classes.specs.declared.Splitting.{Splitting}
 use Rattle.classes.specs.declared.Splitting.the-variants.{NetworkHost, Refused}
 use Rattle.classes.proofs.ClassLaws.{class-a, class-b, class-c, split-class}
 use Rattle.classes.proofs.JoinLaws as laws
-use Rattle.classes.proofs.TableLaws.{split-answers, split-call, one-row, join-answers, join-call}
+use Rattle.classes.proofs.TableLaws.{split-answers, split-call, join-answers, join-call}
+use Rattle.classes.proofs.TableLaws as table
 
 -- ---- there and back
 
@@ -41,25 +42,12 @@ pub split-exactly : (a : Address) → IsAddress a → (r : Answer (ℕ × ℕ)) 
 split-exactly a h r = (λ e. let s = split-call a h in subst (SplitCall a) (sym (split-answers (s .1)) ∙ e) (s .1), split-answers)
 
 -- So there are three numbers. 0: "the address does not begin with 111", which is the premise of "join of split is the address".
-abbrev SplitNumbers : Address → ℕ → Type 0
-SplitNumbers a k =
+pub split-number : (a : Address) → IsAddress a → let k = splitAnswer a .number in
     ((k ≡ 0) ↔ ((family a ≡ 4) × (number a / 2 ^ 29 ≡ 7 → ⊥)))
     × ((k ≡ 6) ↔ ((family a ≡ 4) × (number a / 2 ^ 29 ≡ 7)))
     × ((k ≡ 9) ↔ (family a ≡ 6))
     × ((k ≡ 0) ⊎ (k ≡ 6) ⊎ (k ≡ 9))
-
-pub split-number : (a : Address) → IsAddress a → SplitNumbers a (splitAnswer a .number)
-split-number a h = let s = split-call a h in subst (SplitNumbers a) (ap (λ r. r .number) (sym (split-answers (s .1)))) (go (s .1))
-  where
-    good : (v : ℕ) → (v / 2 ^ 29 ≡ 7 → ⊥) → SplitNumbers (V4 v) 0
-    good v n = ((λ e. (refl, n), λ k. refl), (λ e. absurd (omega arith), λ k. absurd (n (k .1))), (λ e. absurd (omega arith), λ k. absurd (omega arith)), inl refl)
-
-    go : {a : Address} {r : Answer (ℕ × ℕ)} → SplitCall a r → SplitNumbers a (r .number)
-    go (class-A {v} h) = good v λ k. omega arith
-    go (class-B {v} h) = good v λ k. omega arith
-    go (class-C {v} h) = good v λ k. omega arith
-    go (bits-111 h) = ((λ e. absurd (omega arith), λ k. absurd (k .1 h)), (λ e. (refl, h), λ k. refl), (λ e. absurd (omega arith), λ k. absurd (omega arith)), inr (inl refl))
-    go not-IPv4 = ((λ e. absurd (omega arith), λ k. absurd (omega (arith, k .0))), (λ e. absurd (omega arith), λ k. absurd (omega (arith, k .0))), (λ e. refl, λ k. refl), inr (inr refl))
+split-number = table.split-number
 
 -- "has a premise: the address does not begin with 111": all others split, by the class whose first bits they begin with
 pub splits : (v : ℕ) → v < 2 ^ 32 → (v / 2 ^ 29 ≡ 7 → ⊥)
@@ -90,11 +78,9 @@ pub whole-bytes : (hosts classA ≡ 256 ^ 3) × (hosts classB ≡ 256 ^ 2) × (h
 whole-bytes = (refl, refl, refl)
 
 -- The columns of the table agree: the network numbers of a class are those that begin with its first bits.
-abbrev Agrees : Class → Type 0
-Agrees c = (n : ℕ) → let low = 2 ^ (32 - c .bits) / hosts c in ((c .least ≤ n) × (n ≤ c .most) → n / low ≡ c .first) × (n / low ≡ c .first → (c .least ≤ n) × (n ≤ c .most))
-
-pub columns-agree : Agrees classA × Agrees classB × Agrees classC
-columns-agree = (λ n. (λ h. omega arith, λ h. (omega arith, omega arith)), λ n. (λ h. omega arith, λ h. (omega arith, omega arith)), λ n. (λ h. omega arith, λ h. (omega arith, omega arith)))
+pub columns-agree : (c : Class) → (c ≡ classA) ⊎ (c ≡ classB) ⊎ (c ≡ classC) → (n : ℕ)
+    → ((c .least ≤ n) × (n ≤ c .most)) ↔ (n / (2 ^ (32 - c .bits) / hosts c) ≡ c .first)
+columns-agree = table.columns-agree
 
 -- ---- the table by its network numbers
 
@@ -103,30 +89,12 @@ pub join-exactly : (n h : ℕ) (r : Answer Address) → (joinAnswer n h ≡ r) �
 join-exactly n h r = (λ e. let s = join-call n h in subst (JoinCall n h) (sym (join-answers (s .1)) ∙ e) (s .1), join-answers)
 
 -- So there are three numbers.
-abbrev JoinNumbers : ℕ → ℕ → ℕ → Type 0
-JoinNumbers n h k =
+pub join-number : (n h : ℕ) → let k = joinAnswer n h .number in
     ((k ≡ 0) ↔ ((most : ℕ) × Row n most × (h ≤ most)))
     × ((k ≡ 6) ↔ ((most : ℕ) → Row n most → ⊥))
     × ((k ≡ 7) ↔ ((most : ℕ) × Row n most × (most < h)))
     × ((k ≡ 0) ⊎ (k ≡ 6) ⊎ (k ≡ 7))
-
-pub join-number : (n h : ℕ) → JoinNumbers n h (joinAnswer n h .number)
-join-number n h = let s = join-call n h in subst (JoinNumbers n h) (ap (λ r. r .number) (sym (join-answers (s .1)))) (go (s .1))
-  where
-    go : {r : Answer Address} → JoinCall n h r → JoinNumbers n h (r .number)
-    go (no-class f) = ((λ e. absurd (omega arith), λ k. absurd (f (k .0) (k .1))), (λ e. f, λ k. refl), (λ e. absurd (omega arith), λ k. absurd (f (k .0) (k .1))), inr (inl refl))
-    go (host-too-large {most} r l) = (
-      (λ e. absurd (omega arith), λ k. absurd (omega (arith, one-row r (k .1), l, k .2))),
-      (λ e. absurd (omega arith), λ k. absurd (k most r)),
-      (λ e. (most, r, l), λ k. refl),
-      inr (inr refl),
-    )
-    go (joined {most} r l) = (
-      (λ e. (most, r, l), λ k. refl),
-      (λ e. absurd (omega arith), λ k. absurd (k most r)),
-      (λ e. absurd (omega arith), λ k. absurd (omega (arith, one-row r (k .1), l, k .2))),
-      inl refl,
-    )
+join-number = table.join-number
 
 -- A promise about the paper's answer fixes the code's answer.
 pub one-splitting : (r s : Splitting) → splittingAnswer r ≡ splittingAnswer s → r ≡ s

@@ -1,6 +1,6 @@
 -- What is claimed of the published grammar, of normal text and of the loose, network and block forms: reading accepts exactly their texts,
 -- answers what they mean and refuses all others by their numbers, and what is written is the one text of its form. Assumes nothing.
-use mathlib.Core.Path.{_≡_, sym, ap, subst, subst₂, _∙_}
+use mathlib.Core.Path.{_≡_, refl, sym, ap, subst, subst₂, _∙_}
 use mathlib.Core.Bool.{false}
 use mathlib.Core.List.{List, [], _∷_, _++_}
 use mathlib.Core.Logic.{_⊎_, inl, inr, _↔_}
@@ -10,7 +10,9 @@ use native.Mathlib.Omega.{arith}
 use lib.Dec.{eqb}
 use lib.ListN.{length, drop, replicate}
 use Rattle.notation.specs.BigEndian.{AllBelow, digitsOf, numberOf}
-use Rattle.notation.specs.Pieces.{contains}
+use Rattle.notation.specs.Ascii.{ascii}
+use Rattle.notation.specs.Pieces.{contains, splitOn}
+use Rattle.notation.specs.Options.{every}
 use Rattle.address.specs.declared.Address.{Address}
 use Rattle.address.specs.declared.Address.the-variants.{V4}
 use Rattle.address.specs.declared.Block.{Block}
@@ -18,12 +20,13 @@ use Rattle.address.specs.declared.BlockReading.{BlockReading}
 use Rattle.address.specs.declared.Reading.{Reading}
 use Rattle.address.specs.declared.Reading.the-variants.{Read}
 use Rattle.address.specs.declared.Refusal.{Refusal}
+use Rattle.address.specs.declared.Refusal.the-variants.{Malformed, NoRoom, LengthTooLarge, BitsBeyondLength}
 use Rattle.address.specs.Addresses.{IsAddress, family, width, number}
 use Rattle.address.specs.Answers.{Answer, gives, refuses, refusalNumber, noAddress, noBlock, readAnswer, writeAnswer, writeLeaves, readingAnswer, blockAnswer, writingAnswer}
 use Rattle.address.specs.declared.Writing.{Writing}
 use Rattle.address.proofs.Claims.{one-reading}
 use Rattle.octets.specs.Octets.{octets}
-use Rattle.digits.specs.Numerals.{digitOf, partOf, groupOf}
+use Rattle.digits.specs.Numerals.{digitOf, allDigits, partOf, groupOf}
 use Rattle.ipv4_text.specs.Dotted.{dottedOf}
 use Rattle.ipv6_text.specs.EightGroups.{eightOf}
 use Rattle.text.specs.Strict.{strictOf, strictAnswer}
@@ -43,6 +46,7 @@ use Rattle.grammar.specs.NormalForm.{NormalEight, NormalForm}
 use Rattle.grammar.specs.LooseForm.{OCTDIG, loose-part, LooseForm, LooseCall, read-loose}
 use Rattle.grammar.specs.NetworkForm.{slash, bytes-given, size-part, inferred-size, NetworkForm, NetworkCall, read-network, WrittenNetwork, NetworkWriting}
 use Rattle.grammar.specs.BlockForm.{BlockForm, BlockCall, read-block, WrittenBlock}
+use Rattle.grammar.specs.Specimens.{NoneOf, notStrict, notLoose, ones}
 use Rattle.grammar.proofs.NumberLaws.{octet-reads, reads-octet, h16-reads, reads-h16, size-reads, reads-size, size-999}
 use Rattle.grammar.proofs.DottedLaws.{address-reads, address-octets, octets-address}
 use Rattle.grammar.proofs.GrammarLaws.{grammar-reads, reads-grammar}
@@ -59,6 +63,7 @@ use Rattle.grammar.proofs.NetworkCallLaws as calls
 use Rattle.grammar.proofs.WrittenLaws as written-laws
 use Rattle.grammar.proofs.BlockFormLaws as block-laws
 use Rattle.grammar.proofs.ByteLaws as bytes
+use Rattle.grammar.proofs.SpecimenLaws.{unread, none-of}
 
 -- ---- strict text
 
@@ -341,22 +346,21 @@ written-is-network v size h =
     (r .0 .bytes, subst (λ (n : ℕ). NetworkForm t n (r .0 .bytes)) (r .2) (network-exactly t (r .0) .0 (r .1)), r .3)
 
 module _ (a : Address) (is : IsAddress a) (size : ℕ) (old : List ℕ) where
-  abbrev answered : Answer ℕ
-  answered = writeAnswer (writeNetworkRefusal a size) (networkText (number a) size) old
-
-  abbrev left : List ℕ
-  left = writeLeaves (writeNetworkRefusal a size) (networkText (number a) size) old
-
   -- The whole answer of the writer and the whole buffer afterwards, refused calls too: 9 before 4 before 3.
-  pub network-writing-answers : (r : Answer ℕ) (new : List ℕ) → ((answered ≡ r) × (left ≡ new)) ↔ NetworkWriting a size old r new
+  pub network-writing-answers : (r : Answer ℕ) (new : List ℕ) → let text = networkText (number a) size in
+      ((writeAnswer (writeNetworkRefusal a size) text old ≡ r) × (writeLeaves (writeNetworkRefusal a size) text old ≡ new)) ↔ NetworkWriting a size old r new
   network-writing-answers r new = (λ e. subst₂ (NetworkWriting a size old) (e .0) (e .1) (written-laws.does-call a is size old), written-laws.call-does a is size old)
 
-  pub network-writing-refuses : (e : Refusal) → (answered .number ≡ refusalNumber e) ↔ NetworkWriting a size old (refuses 0 e) left
+  pub network-writing-refuses : (e : Refusal) → let text = networkText (number a) size in
+      (writeAnswer (writeNetworkRefusal a size) text old .number ≡ refusalNumber e) ↔ NetworkWriting a size old (refuses 0 e) (writeLeaves (writeNetworkRefusal a size) text old)
   unfolding writeAnswer
-  network-writing-refuses = refuses-exactly (λ r. NetworkWriting a size old r left) 0 _ _ (written-laws.does-call a is size old) (λ r c. written-laws.call-does a is size old c .0)
+  network-writing-refuses =
+      let left = writeLeaves (writeNetworkRefusal a size) (networkText (number a) size) old in
+      refuses-exactly (λ r. NetworkWriting a size old r left) 0 _ _ (written-laws.does-call a is size old) (λ r c. written-laws.call-does a is size old c .0)
 
   -- So does whatever answers and leaves as `write_network` promises to.
-  pub network-writer : (r : Writing) (new : List ℕ) → writingAnswer r ≡ answered → new ≡ left → NetworkWriting a size old (writingAnswer r) new
+  pub network-writer : (r : Writing) (new : List ℕ) → let text = networkText (number a) size in
+      writingAnswer r ≡ writeAnswer (writeNetworkRefusal a size) text old → new ≡ writeLeaves (writeNetworkRefusal a size) text old → NetworkWriting a size old (writingAnswer r) new
   network-writer r new e f = network-writing-answers (writingAnswer r) new .0 (sym e, sym f)
 
 -- ---- block text
@@ -408,3 +412,71 @@ module _ (b : ℕ) (other : digitOf b ≡ 16) (no-dot : eqb dot b ≡ false) whe
 
   pub block-only-these : eqb colon b ≡ false → eqb slash b ≡ false → {t : List ℕ} {a : Address} {n : ℕ} → BlockForm t a n → contains b t ≡ false
   block-only-these c s h = bytes.block-lacks b other no-dot c s h
+
+-- ---- specimens, computed
+
+-- Strict text: none of the texts beside the grammar is of it, of either family.
+pub none-strict : NoneOf (StrictForm 0) notStrict
+unfolding unread strictOf ascii splitOn every allDigits digitOf partOf groupOf
+none-strict = none-of (StrictForm 0) (strictOf 0) (λ t a h. strict-laws.form-reads h) notStrict refl
+
+-- Loose text: the texts of 01 and of document 003, with the addresses that they mean;
+pub all-loose : LooseForm (ascii "010.0.0.12") (V4 0x0800000C)
+    × LooseForm (ascii "226.000.000.037") (V4 0xE200001F)
+    × LooseForm (ascii "0x7f.1") (V4 0x7F000001)
+    × LooseForm (ascii "1.2.65535") (V4 0x0102FFFF)
+    × LooseForm (ascii "0") (V4 0)
+    × LooseForm (ascii "0XfF.0377.255.0255") (V4 0xFFFFFFAD)
+unfolding ascii looseOf allDigits digitOf
+all-loose = (read refl, read refl, read refl, read refl, read refl, read refl)
+  where
+    read : {t : List ℕ} {v : ℕ} → looseOf t ≡ some (V4 v) → LooseForm t (V4 v)
+    read {t} {v} e = loose-exactly t (V4 v) .0 e
+
+-- and texts beside them.
+pub none-loose : NoneOf LooseForm notLoose
+unfolding unread ascii looseOf allDigits digitOf
+none-loose = none-of LooseForm looseOf (λ t a h. loose-laws.form-reads h) notLoose refl
+
+done : {t old new : List ℕ} {r : Answer (ℕ × ℕ)} → networkAnswer t old ≡ r → networkLeaves t old ≡ new → NetworkCall t old r new
+done {t} {old} {new} {r} e f = network-answers t old r new .0 (e, f)
+
+-- Network text: the calls of 01 and of document 000, with the answer and the buffer afterwards;
+pub all-network : NetworkCall (ascii "193.168") ones (gives (24, 3)) (0xC1 ∷ 0xA8 ∷ 0x00 ∷ 0xFF ∷ [])
+    × NetworkCall (ascii "193.168.1.128") ones (gives (32, 4)) (0xC1 ∷ 0xA8 ∷ 0x01 ∷ 0x80 ∷ [])
+    × NetworkCall (ascii "193.168.1.128/24") ones (gives (24, 4)) (0xC1 ∷ 0xA8 ∷ 0x01 ∷ 0x80 ∷ [])
+    × NetworkCall (ascii "224.1") ones (gives (4, 2)) (0xE0 ∷ 0x01 ∷ 0xFF ∷ 0xFF ∷ [])
+    × NetworkCall (ascii "0xabc") ones (gives (16, 2)) (0xAB ∷ 0xC0 ∷ 0xFF ∷ 0xFF ∷ [])
+    × NetworkCall (ascii "0/0") ones (gives (0, 1)) (0x00 ∷ 0xFF ∷ 0xFF ∷ 0xFF ∷ [])
+    × NetworkCall (ascii "10/20") ones (gives (20, 3)) (0x0A ∷ 0x00 ∷ 0x00 ∷ 0xFF ∷ [])
+unfolding ascii networkAnswer networkLeaves allDigits digitOf splitOn
+all-network = (done refl refl, done refl refl, done refl refl, done refl refl, done refl refl, done refl refl, done refl refl)
+
+-- and what is refused: a size above 32, too short a buffer, a leading zero in a part and in a size, five parts, nine hex digits, none, a slash
+-- with no size, no text.
+pub none-network : NetworkCall (ascii "10/33") ones (refuses (0, 0) LengthTooLarge) ones
+    × NetworkCall (ascii "193.168") (1 ∷ 2 ∷ []) (refuses (0, 0) NoRoom) (1 ∷ 2 ∷ [])
+    × NetworkCall (ascii "010.1") ones (refuses (0, 0) Malformed) ones
+    × NetworkCall (ascii "10/08") ones (refuses (0, 0) Malformed) ones
+    × NetworkCall (ascii "1.2.3.4.5") ones (refuses (0, 0) Malformed) ones
+    × NetworkCall (ascii "0x123456789") ones (refuses (0, 0) Malformed) ones
+    × NetworkCall (ascii "0x") ones (refuses (0, 0) Malformed) ones
+    × NetworkCall (ascii "10/") ones (refuses (0, 0) Malformed) ones
+    × NetworkCall (ascii "") ones (refuses (0, 0) Malformed) ones
+unfolding ascii networkAnswer networkLeaves allDigits digitOf splitOn
+none-network = (done refl refl, done refl refl, done refl refl, done refl refl, done refl refl, done refl refl, done refl refl, done refl refl, done refl refl)
+
+judged : {t : List ℕ} {r : Answer Block} → blockTextAnswer t ≡ r → BlockCall t r
+judged {t} {r} e = block-answers t r .0 e
+
+-- Block text: one block, and what is refused: a bit beyond the length, a length above 32, a leading zero in the length, no length, no slash,
+-- an address that is no strict text.
+pub block-calls : BlockCall (ascii "10.0.0.0/31") (gives (record { address = V4 0x0A000000; length = 31 }))
+    × BlockCall (ascii "10.0.0.1/31") (refuses noBlock BitsBeyondLength)
+    × BlockCall (ascii "10.0.0.0/33") (refuses noBlock LengthTooLarge)
+    × BlockCall (ascii "10.0.0.0/08") (refuses noBlock Malformed)
+    × BlockCall (ascii "10.0.0.0/") (refuses noBlock Malformed)
+    × BlockCall (ascii "10.0.0.0") (refuses noBlock Malformed)
+    × BlockCall (ascii "10.0/16") (refuses noBlock Malformed)
+unfolding ascii blockTextAnswer every allDigits digitOf partOf groupOf splitOn
+block-calls = (judged refl, judged refl, judged refl, judged refl, judged refl, judged refl, judged refl)

@@ -1,51 +1,23 @@
 -- IPv4 text: what the grammar has is what is read, and an address has one spelling. Assumes nothing.
 use mathlib.Core.Path.{_≡_, refl, sym, ap, ap₂, subst, subst₂, _∙_}
-use mathlib.Core.Bool.{Bool, true, false, cond}
 use mathlib.Core.List.{List, [], _∷_, map}
 use mathlib.Core.Option.{some}
 use Prim.Native.Nat.{ℕ, _<_}
 use native.Mathlib.Omega.{arith}
-use borrow.Author.Tests.{eqb-true}
-use lib.Dec.{eqb, lit<}
+use lib.Dec.{lit<}
 use lib.ListN.{length}
 use Rattle.notation.specs.BigEndian.{AllBelow, digitsOf, numberOf}
-use Rattle.notation.specs.Pieces.{onFirst, splitOn, separated}
+use Rattle.notation.specs.Pieces.{splitOn, separated}
 use Rattle.notation.specs.Options.{every}
 use Rattle.notation.proofs.DigitLaws.{number-digits}
-use Rattle.notation.proofs.PieceLaws.{split-first}
-use Rattle.notation.proofs.SeparatedLaws.{separated-cons}
+use Rattle.notation.proofs.SeparatedLaws.{separated-split}
 use Rattle.notation.proofs.EveryLaws.{Reads, done, more, every-reads}
 use Rattle.digits.specs.Numerals.{partOf, decimal}
 use Rattle.ipv4_text.specs.Dotted.{dottedOf, dottedText}
 use Rattle.ipv4_text.proofs.PartLaws.{part-octet}
-use Rattle.ipv4_text.proofs.DottedLaws.{dotted-octets}
-use Rattle.text.proofs.SpellingLaws.{dotted-spelling}
+use Rattle.ipv4_text.proofs.DottedLaws.{dotted-octets, dotted-spelling}
 use Rattle.grammar.specs.Rfc3986.{IPv4address, four-octets}
 use Rattle.grammar.proofs.NumberLaws.{octet-reads, reads-octet, octet-spelling}
-
--- ---- the pieces of a text, put together again
-
-module _ (b : ℕ) where
-  separated-none : (ps : List (List ℕ)) → 0 < length ps → separated b ([] ∷ ps) ≡ b ∷ separated b ps
-  unfolding separated
-  separated-none [] h = absurd (omega arith)
-  separated-none (p ∷ ps) h = refl
-
-  separated-first : (x : ℕ) (ps : List (List ℕ)) → separated b (onFirst x ps) ≡ x ∷ separated b ps
-  unfolding separated onFirst
-  separated-first x [] = refl
-  separated-first x (p ∷ ps) = separated-cons b x p ps
-
-  pub separated-split : (t : List ℕ) → separated b (splitOn b t) ≡ t
-  unfolding separated splitOn
-  separated-split [] = refl
-  separated-split (x ∷ t) = go (eqb x b) refl (separated-split t)
-    where
-      go : (e : Bool) → eqb x b ≡ e → separated b (splitOn b t) ≡ t → separated b (cond e ([] ∷ splitOn b t) (onFirst x (splitOn b t))) ≡ x ∷ t
-      go true e ih =
-          let same = eqb-true x b e in
-          rw (separated-none (splitOn b t) (rw (split-first b t .1) (omega arith)), ih, same)
-      go false e ih = rw (separated-first x (splitOn b t), ih)
 
 -- ---- four octets
 

@@ -9,7 +9,7 @@ use borrow.Author.Tests.{le-leb, leb-true, lt-ltb, eqb-true}
 use lib.Dec.{leb, eqb, lit≤}
 use lib.ListN.{length}
 use Rattle.notation.specs.Pieces.{splitOn, separated, Lacks}
-use Rattle.notation.proofs.SeparatedLaws.{lacks-separated}
+use Rattle.notation.proofs.SeparatedLaws.{lacks-separated, separated-split}
 use Rattle.notation.proofs.EveryLaws.{Reads, done, more, every-reads, reads-each, reads-so}
 use Rattle.notation.proofs.OptionLaws.{impossible}
 use Rattle.digits.specs.Numerals.{digitOf, allDigits, partOf, decimal}
@@ -20,7 +20,6 @@ use Rattle.ipv4_text.proofs.DottedLaws.{parts-are, parts-spelling}
 use Rattle.network.specs.GivenBytes.{halfBytes, hexBytes, givenOf}
 use Rattle.grammar.specs.NetworkForm.{half-bytes, no-digits, odd-digit, two-digits, decimal-parts, bytes-given, after-0x, after-0X, or-decimal, a·b·c·d, a·b·c, a·b, only-a}
 use Rattle.grammar.proofs.NumberLaws.{octet-reads, reads-octet, octet-spelling}
-use Rattle.grammar.proofs.DottedLaws.{separated-split}
 use Rattle.grammar.proofs.DigitStringLaws.{hex-value, is-hex, all-cons}
 
 -- ---- hex digits

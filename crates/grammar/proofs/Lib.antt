@@ -7,7 +7,7 @@
 -- Network text. GivenLaws: the bytes given. NetworkFormLaws: sizes, the bytes written, and what reading answers and leaves in the buffer.
 -- NetworkCallLaws: what an answer says of the text. WrittenLaws: the text that is written, and what writing answers.
 -- Block text. BlockFormLaws: the form, what reading answers, and what is written. ByteLaws: which bytes stand in a text.
--- Claims: what is claimed of all. Specimens: texts of each form, and texts of none.
+-- SpecimenLaws: texts that are of no form. Claims: what is claimed of all.
 pub mod CallLaws
 pub mod DigitStringLaws
 pub mod NumberLaws
@@ -27,5 +27,5 @@ pub mod NetworkFormLaws
 pub mod NetworkCallLaws
 pub mod WrittenLaws
 pub mod BlockFormLaws
+pub mod SpecimenLaws
 pub mod Claims
-pub mod Specimens

@@ -13,7 +13,7 @@ use Rattle.notation.specs.BigEndian.{numberOf}
 use Rattle.notation.specs.Pieces.{splitOn, separated}
 use Rattle.notation.specs.Options.{every}
 use Rattle.notation.proofs.DigitLaws.{four-number}
-use Rattle.notation.proofs.SeparatedLaws.{split-separated}
+use Rattle.notation.proofs.SeparatedLaws.{split-separated, separated-split}
 use Rattle.notation.proofs.EveryLaws.{Reads, done, more, every-reads, reads-each, reads-so}
 use Rattle.notation.proofs.OptionLaws.{impossible, same-value, nothing-there}
 use Rattle.address.specs.declared.Address.{Address}
@@ -28,7 +28,7 @@ use Rattle.loose.proofs.Claims.{strict-is-loose}
 use Rattle.loose.proofs.FormLaws.{one-part, two-parts, three-parts, four-parts, no-fifth}
 use Rattle.grammar.specs.LooseForm.{LooseForm, a·b·c·d, a·b·c, a·b, only-a, LooseCall, too-long, not-loose, read-loose}
 use Rattle.grammar.specs.StrictForm.{IPv4Text, of-octets}
-use Rattle.grammar.proofs.DottedLaws.{separated-split, address-reads}
+use Rattle.grammar.proofs.DottedLaws.{address-reads}
 use Rattle.grammar.proofs.LoosePartLaws.{part-reads, reads-part}
 use Rattle.grammar.proofs.ByteLaws.{part-lacks}
 

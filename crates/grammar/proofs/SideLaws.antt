@@ -12,7 +12,7 @@ use Rattle.notation.specs.Pieces.{splitOn, separated, Lacks}
 use Rattle.notation.specs.Options.{joined, single, orElse}
 use Rattle.notation.proofs.DigitLaws.{four-number}
 use Rattle.notation.proofs.PieceLaws.{split-first}
-use Rattle.notation.proofs.SeparatedLaws.{lacks-cons, split-lacks}
+use Rattle.notation.proofs.SeparatedLaws.{lacks-cons, split-lacks, separated-split}
 use Rattle.notation.proofs.OptionLaws.{impossible}
 use Rattle.digits.specs.Numerals.{digitOf, groupOf}
 use Rattle.digits.proofs.NumeralLaws.{no-digit, group-digits}
@@ -20,10 +20,10 @@ use Rattle.digits.proofs.FirstPieceLaws.{part-most}
 use Rattle.ipv4_text.specs.Dotted.{dottedOf}
 use Rattle.ipv6_text.specs.EightGroups.{tailOf, piecesOf, sideOf, gapOf}
 use Rattle.ipv6_text.proofs.ColonLaws.{dotted-no-colon}
-use Rattle.text.proofs.SpellingLaws.{gap-piece}
+use Rattle.ipv6_text.proofs.SpellingLaws.{gap-piece}
 use Rattle.grammar.specs.Rfc3986.{IPv4address, four-octets, h16}
 use Rattle.grammar.proofs.NumberLaws.{octet-reads, h16-reads, reads-h16}
-use Rattle.grammar.proofs.DottedLaws.{separated-split, address-reads, reads-address}
+use Rattle.grammar.proofs.DottedLaws.{address-reads, reads-address}
 
 -- one or more groups; the last two may be an IPv4 text where the flag allows it
 pub data Run : Bool → List ℕ → List ℕ → Type 0 where

@@ -22,10 +22,9 @@ use Rattle.address.proofs.Claims.{gives-one, gives-refuses}
 use Rattle.address_groups.specs.Groups.{groupsAddress}
 use Rattle.ipv4_text.specs.Dotted.{dottedOf, dottedText}
 use Rattle.ipv6_text.specs.EightGroups.{eightOf}
-use Rattle.ipv6_text.proofs.ColonLaws.{colon-not-dotted}
+use Rattle.ipv6_text.proofs.ColonLaws.{colon-not-dotted, eight-colon}
 use Rattle.text.specs.Inner.{asReading}
 use Rattle.text.specs.Strict.{strictOf, knownFamily, strictAnswer}
-use Rattle.text.proofs.FamilyLaws.{eight-colon}
 use Rattle.text.proofs.StrictLaws.{strict-unknown, strict-long, strict-read}
 use Rattle.normal.specs.Normal.{normalText}
 use Rattle.grammar.specs.Rfc3986.{IPv4address, four-octets, IPv6address}

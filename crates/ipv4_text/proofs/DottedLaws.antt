@@ -1,31 +1,35 @@
 -- Parts with dots, read one after the other. Assumes nothing.
-use mathlib.Core.Path.{_≡_, refl, sym, ap, _∙_}
+use mathlib.Core.Path.{_≡_, refl, sym, ap, subst, _∙_}
+use mathlib.Core.Logic.{_↔_}
 use mathlib.Core.Bool.{Bool, true, false, cond}
-use mathlib.Core.List.{List, [], _∷_}
+use mathlib.Core.List.{List, [], _∷_, map}
 use mathlib.Core.Option.{Option, some, none, Option·map}
 use Prim.Native.Nat.{ℕ, suc, _+_, _-_, _*_, _^_, _≤_, _<_}
 use native.Mathlib.Nat.{zero-add, pow-le-pow-right}
 use native.Mathlib.Numerals.{add-one}
 use native.Mathlib.Omega.{arith}
-use borrow.Author.Tests.{le-leb, lt-leb, leb-true, eqb-true}
-use lib.Dec.{eqb, leb}
+use borrow.Author.Tests.{le-leb, lt-leb, leb-true, eqb-true, eq-eqb}
+use lib.Dec.{eqb, leb, lit≤, lit<}
 use lib.ListN.{length, take, drop, getD}
 use lib.Seq.{take-all}
-use Rattle.notation.specs.BigEndian.{AllBelow, numberFrom, numberOf}
-use Rattle.notation.specs.Pieces.{indexOf, splitOn, separated}
+use Rattle.notation.specs.BigEndian.{AllBelow, digitsOf, numberFrom, numberOf}
+use Rattle.notation.specs.Pieces.{Lacks, Each, indexOf, splitOn, separated}
 use Rattle.notation.specs.Options.{joined, every}
+use Rattle.notation.proofs.DigitLaws.{digits-below, digits-length, digits-number, number-below}
 use Rattle.notation.proofs.PieceLaws.{split-found, split-last, split-first}
-use Rattle.notation.proofs.SeparatedLaws.{split-separated}
+use Rattle.notation.proofs.SeparatedLaws.{split-separated, lacks-split}
 use Rattle.notation.proofs.SliceLaws.{to-end}
 use Rattle.notation.proofs.EveryLaws.{every-reads, reads-each, reads-length, reads-below}
 use Rattle.digits.specs.declared.read.Leading.the-variants.{Number, Nothing}
-use Rattle.digits.specs.Numerals.{digitOf, partOf, digitCount, leading}
+use Rattle.digits.specs.Numerals.{digitOf, partOf, digitCount, leading, decimal}
+use Rattle.digits.proofs.NumeralLaws.{no-digit, part-digits}
+use Rattle.digits.proofs.SeparatedNumeralLaws.{numerals-most}
 use Rattle.digits.proofs.FirstPieceLaws.{part-reads, piece-nothing, piece-last, piece-more, piece-other, leading-says, part-most}
 use Rattle.ipv4_text.specs.declared.Dotted.the-variants.{Value, NotDotted}
 use Rattle.ipv4_text.specs.declared.Parts.{Parts}
 use Rattle.ipv4_text.specs.declared.Parts.the-variants.{Numbers, NotParts}
-use Rattle.ipv4_text.specs.Dotted.{partsOf, dottedOf, asParts, asDotted}
-use Rattle.ipv4_text.proofs.PartLaws.{part-lacks, part-octet}
+use Rattle.ipv4_text.specs.Dotted.{partsOf, dottedOf, asParts, asDotted, dottedText}
+use Rattle.ipv4_text.proofs.PartLaws.{every-decimal, part-lacks, part-octet}
 
 -- what an answer says of the definition
 pub value-says : (o : Option ℕ) (v : ℕ) → Value v ≡ asDotted o → o ≡ some v
@@ -156,6 +160,13 @@ parts-are t xs e = go (leb (length (splitOn 46 t)) 4) refl e
         }
     go false p q = let z : _≡_ {A = ℕ} 0 1 = cc in absurd (omega arith)
 
+pub parts-exactly : (t xs : List ℕ) → (partsOf t ≡ some xs) ↔ ((every (partOf 255) (splitOn 46 t) ≡ some xs) × (1 ≤ length xs) × (length xs ≤ 4))
+unfolding partsOf
+parts-exactly t xs = (
+  λ e. let o = parts-are t xs e in (o .each, o .octets .any, o .octets .most),
+  λ h. rw (le-leb (length (splitOn 46 t)) 4 (omega (arith, reads-length (every-reads (partOf 255) (splitOn 46 t) xs (h .0)), h .2))) (h .0),
+)
+
 -- four parts are among one to four
 pub dotted-parts : (t xs : List ℕ) → partsOf t ≡ some xs → dottedOf t ≡ cond (eqb (length xs) 4) (some (numberOf 256 xs)) none
 unfolding dottedOf
@@ -188,6 +199,16 @@ dotted-octets t v e = go (partsOf t) refl
     go none q = absurd (none-some (sym (dotted-none t q) ∙ e))
     go (some xs) q = four xs (parts-are t xs q) (eqb (length xs) 4) refl (sym (dotted-parts t xs q) ∙ e)
 
+pub dotted-exactly : (t : List ℕ) (v : ℕ)
+    → (dottedOf t ≡ some v) ↔ ((xs : List ℕ) × (every (partOf 255) (splitOn 46 t) ≡ some xs) × (length xs ≡ 4) × (numberOf 256 xs ≡ v))
+unfolding dottedOf
+dotted-exactly t v = (λ e. let o = dotted-octets t v e in (o .0, o .1 .each, o .2, o .3), λ h. back (h .0) (h .1) (h .2) (h .3))
+  where
+    back : (xs : List ℕ) → every (partOf 255) (splitOn 46 t) ≡ some xs → length xs ≡ 4 → numberOf 256 xs ≡ v → dottedOf t ≡ some v
+    back xs e l n =
+        let four : length (splitOn 46 t) ≡ 4 = reads-length (every-reads (partOf 255) (splitOn 46 t) xs e) ∙ l in
+        rw (eq-eqb (length (splitOn 46 t)) 4 four, e, n)
+
 -- what an answer says of the definition
 pub numbers-says : (o : Option (List ℕ)) (v n : ℕ) → Numbers v n ≡ asParts o → (xs : List ℕ) × (o ≡ some xs) × (v ≡ numberOf 256 xs) × (n ≡ length xs)
 numbers-says none v n e = let z : _≡_ {A = ℕ} 0 1 = cc in absurd (omega arith)
@@ -204,3 +225,39 @@ parts-spelling ps xs e any most =
     let r = every-reads (partOf 255) ps xs e in
     let long = reads-length r in
     rw (split-separated 46 ps (omega arith) (reads-each part-lacks r), le-leb (length ps) 4 (omega arith), e)
+
+-- and exactly four
+pub dotted-spelling : (ps : List (List ℕ)) (xs : List ℕ) → every (partOf 255) ps ≡ some xs → length xs ≡ 4 → dottedOf (separated 46 ps) ≡ some (numberOf 256 xs)
+unfolding dottedOf
+dotted-spelling ps xs e h =
+    let r = every-reads (partOf 255) ps xs e in
+    let long : length ps ≡ 4 = reads-length r ∙ h in
+    rw (split-separated 46 ps (omega arith) (reads-each part-lacks r), eq-eqb (length ps) 4 long, e)
+
+-- ---- what IPv4 text holds
+
+-- an IPv4 text holds digits and dots
+pub dotted-lacks : (b : ℕ) → digitOf b ≡ 16 → eqb 46 b ≡ false → (t : List ℕ) (v : ℕ) → dottedOf t ≡ some v → Lacks b t
+unfolding dottedOf
+dotted-lacks b n o t v e = lacks-split 46 b o t (go (eqb (length (splitOn 46 t)) 4) (every (partOf 255) (splitOn 46 t)) refl e)
+  where
+    go : (c : Bool) (os : Option (List ℕ)) → every (partOf 255) (splitOn 46 t) ≡ os → cond c (Option·map (numberOf 256) os) none ≡ some v → Each (Lacks b) (splitOn 46 t)
+    go true none q k = let z : _≡_ {A = ℕ} 0 1 = cc in absurd (omega arith)
+    go true (some xs) q k = reads-each (λ p x r. no-digit 10 b p (lit≤ tt) n (part-digits 255 p x r .all)) (every-reads (partOf 255) (splitOn 46 t) xs q)
+    go false os q k = let z : _≡_ {A = ℕ} 0 1 = cc in absurd (omega arith)
+
+-- four octets write a number of 32 bits
+pub dotted-below : (t : List ℕ) (v : ℕ) → dottedOf t ≡ some v → v < 2 ^ 32
+dotted-below t v e = let o = dotted-octets t v e in subst (λ (n : ℕ). n < 2 ^ 32) (o .3) (number-below 256 4 (o .0) (o .2) (o .1 .octets .small))
+
+-- ---- the text of an address
+
+pub dotted-back : (v : ℕ) → v < 2 ^ 32 → dottedOf (dottedText v) ≡ some v
+unfolding dottedText
+dotted-back v h =
+    dotted-spelling (map decimal (digitsOf 256 4 v)) (digitsOf 256 4 v) (every-decimal (digitsOf 256 4 v) (digits-below 256 (lit< tt) 4 v)) (digits-length 256 4 v)
+    ∙ ap some (digits-number 256 (lit< tt) 4 v h)
+
+pub dotted-most : (v : ℕ) → length (dottedText v) ≤ 15
+unfolding dottedText
+dotted-most v = omega (arith, numerals-most 10 3 46 (lit≤ tt) (lit< tt) (lit≤ tt) (digitsOf 256 4 v), digits-length 256 4 v)

@@ -12,9 +12,9 @@ use Rattle.notation.specs.BigEndian.{digitsOf}
 use Rattle.address.specs.declared.Address.{Address}
 use Rattle.address.specs.declared.Address.the-variants.{V4}
 use Rattle.address.specs.Addresses.{number}
-use Rattle.address.specs.Answers.{gives, writeAnswer, writeLeaves}
+use Rattle.address.specs.Answers.{gives, writeAnswer, writeLeaves, Cases, given, not-given}
 use Rattle.address.proofs.AnswerLaws.{read-held, good-no-reason}
-use Rattle.address.proofs.Claims.{Cases, given, not-given, one-answer}
+use Rattle.address.proofs.Claims.{one-answer}
 use Rattle.octets.specs.Octets.{octets}
 use Rattle.digits.specs.Numerals.{numeral}
 use Rattle.network.specs.GivenBytes.{zeroFilled}

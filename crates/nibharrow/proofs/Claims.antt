@@ -1,13 +1,13 @@
 -- What is claimed of the C interface. Assumes nothing.
 use mathlib.Core.Path.{_≡_, refl, sym, ap, subst, _∙_}
 use mathlib.Core.Logic.{_↔_}
-use mathlib.Core.List.{List, [], _∷_, _++_}
+use mathlib.Core.List.{List, [], _∷_}
 use mathlib.Core.Option.{some, Option·getD}
-use Prim.Native.Nat.{ℕ, _+_, _*_, _/_, _≤_, _<_, max}
+use Prim.Native.Nat.{ℕ, _+_, _*_, _/_, _≤_, _<_, min, max}
 use native.Mathlib.Omega.{arith}
 use lib.ListN.{length, take, drop}
 use Rattle.notation.specs.BigEndian.{AllBelow, digitsOf, numberOf}
-use Rattle.cover.specs.Blocks.{Fewest, Range, rangeBlocks}
+use Rattle.cover.specs.Blocks.{rangeBlocks}
 use Rattle.address.specs.declared.Address.{Address}
 use Rattle.address.specs.declared.Block.{Block}
 use Rattle.address.specs.declared.Refusal.{Refusal}
@@ -18,8 +18,7 @@ use Rattle.address.specs.Blocks.{blockRefusal}
 use Rattle.address.proofs.AnswerLaws.{number-pos, write-short, write-fits}
 use Rattle.address.proofs.Claims.{written-held}
 use Rattle.octets.specs.Octets.{octets, octetsAnswer}
-use Rattle.octets.proofs.OctetLaws.{octets-length}
-use Rattle.octets.proofs.Claims.{octets-read-back, octets-of-read, is-address, number-is}
+use Rattle.octets.proofs.Claims.{octets-length, octets-read-back, octets-of-read, is-address, number-is}
 use Rattle.text.specs.Strict.{strictAnswer}
 use Rattle.normal.specs.Normal.{normalText}
 use Rattle.normal.proofs.Claims.{read-back-answer}
@@ -32,14 +31,15 @@ use Rattle.classes.specs.Classes.{splitAnswer, joinAnswer}
 use Rattle.classes.proofs.Claims as classes
 use Rattle.blocks.specs.BlockText.{blockTextAnswer, blockText}
 use Rattle.blocks.proofs.Claims as blocks
-use Rattle.records.specs.Records.{recordSize, recordsOf, readRecords}
-use Rattle.ranges.specs.Ranges.{rangeRecords, rangeAnswer, rangeLeaves}
-use Rattle.words.specs.Words.{wordsText, wordsRefusal}
+use Rattle.records.specs.Records.{recordSize}
+use Rattle.ranges.specs.Ranges.{rangeRecords, rangeAnswer, rangeLeaves, HoldsFewest}
+use Rattle.words.specs.Words.{wordsText, wordsRefusal, wordsRefusal}
 use Rattle.words.proofs.Claims as words
 use Rattle.c_answers.specs.CAnswers.{besides}
 use Rattle.nibharrow.specs.Interface.{Outcome, outcome, whenGiven, writes, addressInto, addressWritten, networkInto, networkWrites, networkWritten, octetsSplit, blockInto, blockWrites, blockWritten, rangeTo, rangeInto, wordsInto}
 use Rattle.nibharrow.specs.Buffers.{Wrote, Answered, Filled}
 use Rattle.nibharrow.proofs.InterfaceLaws.{both, when-given, refused-on}
+use Rattle.nibharrow.proofs.InterfaceLaws as interface
 use Rattle.nibharrow.proofs.RoundTripLaws.{good-writes, outcome-went-on, number-went-on, answer-went-on, split-four}
 use Rattle.nibharrow.proofs.RoundTripLaws as laws
 use Rattle.nibharrow.proofs.BufferLaws.{judged, after, written, beside, beside-filled, into-filled, good-filled, text-held}
@@ -302,9 +302,7 @@ class-table a b c d small = (laws.split-a a b c d small, laws.split-b a b c d sm
 -- records the call has written, end to end from the start of the buffer, and the bytes these fill"; what stood behind them stays.
 pub demand-3 : (first last old : List ℕ) (count bytes : ℕ) → AllBelow 256 last → rangeInto first last old .answers ≡ gives (count, bytes)
     → let W = 8 * length first in
-    let left = rangeInto first last old .leaves in
-    let held = readRecords W count left in
-    Fewest W (Range (numberOf 256 first) (numberOf 256 last)) held × (count ≡ length held) × (bytes ≡ recordSize W * count) × (left ≡ recordsOf W held ++ drop bytes old)
+    HoldsFewest W (numberOf 256 first) (numberOf 256 last) (count, bytes) old (rangeInto first last old .leaves)
 demand-3 first last old count bytes small good =
     let (is-a, is-b, on, wrote) = laws.range-went-on first last old (count, bytes) good in
     let b = octetsAnswer last .fields in
@@ -341,6 +339,18 @@ pub words-held : (k : ℕ) (old : List ℕ) (n : ℕ) → wordsInto k old .answe
     → (take n (wordsInto k old .leaves) ≡ wordsText k) × (n ≡ length (wordsText k)) × (drop n (wordsInto k old .leaves) ≡ drop n old)
 unfolding wordsInto
 words-held k old n good = let w = written-held (wordsRefusal k) (wordsText k) old n good in (w .0, w .1, w .3)
+
+-- ---- numbers that no byte holds
+
+-- A family, a size or a length that no byte holds is as wrong as 255: what is promised of the number cut to a byte is promised of the number.
+pub family-cut : (family : ℕ) (t : List ℕ) → strictAnswer (min family 255) t ≡ strictAnswer family t
+family-cut family t = interface.family-cut family (min family 255) t refl
+
+pub size-cut : (a : Address) (size : ℕ) (old : List ℕ) → networkWrites a (min size 255) old ≡ networkWrites a size old
+size-cut a size old = interface.size-cut a size (min size 255) old refl
+
+pub length-cut : (a : Address) (length : ℕ) (old : List ℕ) → blockWrites a (min length 255) old ≡ blockWrites a length old
+length-cut a length old = interface.length-cut a length (min length 255) old refl
 
 -- ---- bytes that are no address
 

@@ -2,17 +2,17 @@
 use mathlib.Core.Path.{_≡_, refl, sym, ap, ap₂, subst, _∙_}
 use mathlib.Core.Logic.{_↔_}
 use mathlib.Core.Bool.{Bool, true, false, cond}
-use mathlib.Core.List.{List, [], _∷_, _++_}
+use mathlib.Core.List.{List, [], _∷_}
 use mathlib.Core.Option.{Option, some, none, Option·getD}
 use Prim.Native.Nat.{ℕ, _+_, _*_, _≤_, _<_}
 use native.Mathlib.Decide.{ℕ-discrete}
 use native.Mathlib.Omega.{arith}
 use borrow.Author.Tests.{ne-eqb}
 use lib.Dec.{ltb}
-use lib.ListN.{length, drop}
+use lib.ListN.{length}
 use Rattle.notation.specs.BigEndian.{AllBelow, numberOf}
 use Rattle.notation.proofs.DigitLaws.{four-number}
-use Rattle.cover.specs.Blocks.{Fewest, Range, rangeBlocks}
+use Rattle.cover.specs.Blocks.{rangeBlocks}
 use Rattle.address.specs.declared.Address.{Address}
 use Rattle.address.specs.declared.Address.the-variants.{V4, V6}
 use Rattle.address.specs.declared.Refusal.the-variants.{NoClass}
@@ -26,9 +26,9 @@ use Rattle.octets.proofs.OctetLaws.{read-4}
 use Rattle.network.specs.Network.{Network, networkOf, noNetwork, readNetworkRefusal, networkAnswer}
 use Rattle.classes.specs.Classes.{classA, classB, classC, splitAnswer}
 use Rattle.classes.proofs.ClassLaws.{class-a, class-b, class-c, class-none, split-class, split-none, split-6}
-use Rattle.records.specs.Records.{recordSize, recordsOf, readRecords}
+use Rattle.records.specs.Records.{recordSize}
 use Rattle.records.proofs.Claims.{records-size}
-use Rattle.ranges.specs.Ranges.{rangeAnswer, rangeLeaves}
+use Rattle.ranges.specs.Ranges.{rangeAnswer, rangeLeaves, HoldsFewest}
 use Rattle.ranges.proofs.Claims as ranges
 use Rattle.ranges.proofs.RangeLaws.{written, case-exactly}
 use Rattle.nibharrow.specs.Interface.{Outcome, outcome, whenGiven, refusedBy, andThen, octetsSplit, rangeTo, rangeInto}
@@ -133,23 +133,18 @@ range-went-on first last old f good =
     let (is-b, on-b, good-b) = outcome-went-on (0, 0) old (octetsAnswer last) (λ b. outcome (rangeAnswer a b old) (rangeLeaves a b old)) f good-a in
     (is-a, is-b, ap (λ o. o .leaves) (on-a ∙ on-b), good-b)
 
--- what demand 3 says of a buffer's records, from the answered numbers of blocks and of bytes
-abbrev pub Records : List ℕ → ℕ × ℕ → ℕ → ℕ → ℕ → List ℕ → Type 0
-Records old f W x y left =
-    let held = readRecords W (f .0) left in
-    Fewest W (Range x y) held × (f .0 ≡ length held) × (f .1 ≡ recordSize W * f .0) × (left ≡ recordsOf W held ++ drop (f .1) old)
-
+-- what demand 3 says of the buffer
 pub range-held : (first last : Address) (old : List ℕ) (f : ℕ × ℕ) → IsAddress last → rangeAnswer first last old ≡ gives f
-    → Records old f (width first) (number first) (number last) (rangeLeaves first last old)
+    → HoldsFewest (width first) (number first) (number last) f old (rangeLeaves first last old)
 range-held first last old f is good =
-    subst (λ f. Records old f (width first) (number first) (number last) (rangeLeaves first last old)) (ap (λ r. r .fields) good)
+    subst (λ f. HoldsFewest (width first) (number first) (number last) f old (rangeLeaves first last old)) (ap (λ r. r .fields) good)
     (ranges.good-answer first last old is (ap (λ r. r .number) good))
 
 pub held-same : (old : List ℕ) (f : ℕ × ℕ) {W W' x x' y y' : ℕ} {left left' : List ℕ} → W ≡ W' → x ≡ x' → y ≡ y' → left ≡ left'
-    → Records old f W x y left → Records old f W' x' y' left'
+    → HoldsFewest W x y f old left → HoldsFewest W' x' y' f old left'
 held-same old f {W} {W'} {x} {x'} {y} {y'} {left} {left'} p q r s =
     let all : _≡_ {A = ℕ × ℕ × ℕ × List ℕ} (W, x, y, left) (W', x', y', left') = λ i. (p i, q i, r i, s i) in
-    subst (λ (z : ℕ × ℕ × ℕ × List ℕ). Records old f (z .0) (z .1) (z .2) (z .3)) all
+    subst (λ (z : ℕ × ℕ × ℕ × List ℕ). HoldsFewest (z .0) (z .1) (z .2) f old (z .3)) all
 
 -- when a range of octets is good
 pub range-good-octets : (first last old : List ℕ) (a b : Address) → octetsAnswer first ≡ gives a → octetsAnswer last ≡ gives b

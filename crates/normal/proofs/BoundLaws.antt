@@ -8,21 +8,20 @@ use borrow.Author.Tests.{ltb-false}
 use lib.Dec.{ltb, lit≤, lit<}
 use lib.ListN.{length, take, drop, length-append, length-drop}
 use lib.Seq.{length-take-le}
-use Rattle.notation.specs.BigEndian.{digitsOf}
 use Rattle.notation.proofs.DigitLaws.{digits-length}
 use Rattle.address.specs.declared.Address.{Address}
 use Rattle.address.specs.declared.Address.the-variants.{V4, V6}
 use Rattle.address.specs.Addresses.{number}
 use Rattle.address_groups.specs.Groups.{groupsOf}
 use Rattle.digits.proofs.SeparatedNumeralLaws.{numerals-most}
-use Rattle.ipv4_text.specs.Dotted.{dottedText}
+use Rattle.ipv4_text.proofs.DottedLaws.{dotted-most}
 use Rattle.zero_runs.specs.Runs.{longestRun, firstRun}
 use Rattle.zero_runs.proofs.RunLaws.{run-is}
 use Rattle.normal.specs.Normal.{groupsText, shortened, normalGroups, normalText}
 
 pub text-4-most : (v : ℕ) → length (normalText (V4 v)) ≤ 15
-unfolding normalText dottedText
-text-4-most v = omega (arith, numerals-most 10 3 46 (lit≤ tt) (lit< tt) (lit≤ tt) (digitsOf 256 4 v), digits-length 256 4 v)
+unfolding normalText
+text-4-most = dotted-most
 
 groups-most : (gs : List ℕ) → length (groupsText gs) ≤ 5 * length gs - 1
 unfolding groupsText

@@ -1,32 +1,25 @@
--- What is claimed of strict text and normal text together (01, "Strict text" and "Normal text"). Assumes nothing.
+-- What is claimed of normal text, and of strict and normal text together (01, "Normal text"; demand 2). Assumes nothing.
 use mathlib.Core.Path.{_≡_, refl}
 use mathlib.Core.Logic.{_↔_}
-use mathlib.Core.Bool.{true, false}
-use mathlib.Core.List.{List, _∷_, _++_, map}
-use mathlib.Core.Option.{Option, some, none}
-use Prim.Native.Nat.{ℕ, _+_, _-_, _≤_, _<_}
+use mathlib.Core.Bool.{false}
+use mathlib.Core.List.{List, map}
+use mathlib.Core.Option.{some}
+use Prim.Native.Nat.{ℕ, _≤_, _<_}
 use native.Mathlib.Omega.{arith}
 use borrow.Author.Tests.{lt-ltb, le-ltb}
-use lib.Dec.{eqb}
-use lib.ListN.{length, take, replicate}
+use lib.ListN.{length, take}
 use Rattle.notation.specs.BigEndian.{AllBelow}
-use Rattle.notation.specs.Pieces.{contains, separated}
-use Rattle.notation.specs.Options.{every}
+use Rattle.notation.specs.Pieces.{contains}
 use Rattle.address.specs.declared.Address.{Address}
 use Rattle.address.specs.declared.Address.the-variants.{V4, V6}
 use Rattle.address.specs.Addresses.{IsAddress, family}
 use Rattle.address.specs.Answers.{gives, writeAnswer, writeLeaves}
 use Rattle.address.proofs.Claims as address
 use Rattle.address.proofs.AnswerLaws.{read-held}
-use Rattle.digits.specs.Numerals.{digitOf, groupOf, lower}
+use Rattle.digits.specs.Numerals.{lower}
 use Rattle.ipv6_text.specs.EightGroups.{eightOf}
 use Rattle.text.specs.Strict.{strictOf, strictAnswer}
-use Rattle.text.proofs.CaseLaws.{lower-strict}
-use Rattle.text.proofs.FamilyLaws.{no-colon-4, colon-6}
-use Rattle.text.proofs.ByteLaws.{strict-lacks}
-use Rattle.text.proofs.MeaningLaws.{strict-address}
-use Rattle.text.proofs.SpellingLaws.{eight-spelling, gap-spelling}
-use Rattle.zero_runs.specs.Runs.{ZeroRun, LeftmostLongest, longestRun, firstRun}
+use Rattle.zero_runs.specs.Runs.{ZeroRun, LeftmostLongest}
 use Rattle.zero_runs.proofs.RunLaws as runs
 use Rattle.normal.specs.Normal.{groupsText, shortened, normalGroups, normalText}
 use Rattle.normal.proofs.BoundLaws.{text-4-most, text-6-most}
@@ -68,15 +61,6 @@ written-read-back a h old n e =
     let back = read-back-answer a h in
     (read-held 0 (normalText a) old (strictAnswer 0) (back .0) n e, read-held 0 (normalText a) old (strictAnswer (family a)) (back .1) n e)
 
--- Any spelling of eight groups, in either case and with leading zeros up to four digits, is read as the groups; and so is one with
--- `::` for the zeros between those on its two sides.
-pub any-spelling : (ps : List (List ℕ)) (gs : List ℕ) → every groupOf ps ≡ some gs → length gs ≡ 8 → eightOf (separated 58 ps) ≡ some gs
-any-spelling = eight-spelling
-
-pub any-spelling-around : (ls rs : List (List ℕ)) (xs ys : List ℕ) → every groupOf ls ≡ some xs → every groupOf rs ≡ some ys → length xs + length ys ≤ 7
-    → eightOf (separated 58 ls ++ (58 ∷ 58 ∷ separated 58 rs)) ≡ some (xs ++ (replicate (8 - (length xs + length ys)) 0 ++ ys))
-any-spelling-around = gap-spelling
-
 -- "`::` may stand once for one or more whole zero groups": for any zeros that it stands for the groups are the same, and so are they without it.
 module _ (gs : List ℕ) (long : length gs ≡ 8) (small : AllBelow 65536 gs) where
   pub any-zeros : (start n : ℕ) → ZeroRun gs start n → 1 ≤ n → eightOf (shortened start n gs) ≡ some gs
@@ -87,11 +71,8 @@ module _ (gs : List ℕ) (long : length gs ≡ 8) (small : AllBelow 65536 gs) wh
 
 -- ---- the run that is shortened
 
--- "the longest run of two or more zero groups becomes `::`. Of two runs equally long the leftmost is shortened."
-pub run-is : (gs : List ℕ) → LeftmostLongest gs (firstRun (longestRun gs) gs) (longestRun gs)
-run-is = runs.run-is
-
--- It is shortened where it has two or more groups, and no group is left out where it has not.
+-- "the longest run of two or more zero groups becomes `::`. Of two runs equally long the leftmost is shortened.": the leftmost longest run,
+-- of which there is one, is shortened where it has two or more groups, and no group is left out where it has not.
 module _ (gs : List ℕ) (start n : ℕ) (r : LeftmostLongest gs start n) where
   pub shortens : 2 ≤ n → normalGroups gs ≡ shortened start n gs
   unfolding normalGroups
@@ -101,10 +82,6 @@ module _ (gs : List ℕ) (start n : ℕ) (r : LeftmostLongest gs start n) where
   unfolding normalGroups
   stays h = rw (← runs.run-only r .0, lt-ltb n 2 h)
 
--- There is one such run.
-pub run-only : (gs : List ℕ) (s n : ℕ) → LeftmostLongest gs s n → (n ≡ longestRun gs) × (s ≡ firstRun (longestRun gs) gs)
-run-only gs s n r = runs.run-only r
-
 -- "lower case": written in lower case a normal text is what it was.
 pub lower-case : (a : Address) → map lower (normalText a) ≡ normalText a
 lower-case = text-lower
@@ -112,35 +89,3 @@ lower-case = text-lower
 -- "Hex groups are always written, never the dotted tail."
 pub never-dotted : (hi lo : ℕ) → contains 46 (normalText (V6 hi lo)) ≡ false
 never-dotted = text-6-lacks
-
--- ---- strict text
-
--- What a strict text is read as is an address: 32 bits, or two halves of 64.
-pub reads-address : (family : ℕ) (t : List ℕ) (a : Address) → strictOf family t ≡ some a → IsAddress a
-reads-address = strict-address
-
--- "IPv6 text always has a colon and IPv4 text never has one."
-pub always-colon : (t : List ℕ) (a : Address) → strictOf 6 t ≡ some a → contains 58 t ≡ true
-always-colon = colon-6
-
-pub never-colon : (t : List ℕ) (a : Address) → strictOf 4 t ≡ some a → contains 58 t ≡ false
-never-colon = no-colon-4
-
--- "A zero byte inside it is a wrong byte. Surrounding blanks are wrong bytes": so is every byte but a hex digit, a dot and a colon, so that
--- no zone, port or bracket is read.
-pub only-these : (b : ℕ) → digitOf b ≡ 16 → eqb 46 b ≡ false → eqb 58 b ≡ false → (family : ℕ) (t : List ℕ) (a : Address) → strictOf family t ≡ some a → contains b t ≡ false
-only-these = strict-lacks
-
--- "No text is both".
-pub not-both : (t : List ℕ) (a : Address) → strictOf 4 t ≡ some a → strictOf 6 t ≡ none
-not-both t a e = go (strictOf 6 t) refl
-  where
-    go : (o : Option Address) → strictOf 6 t ≡ o → o ≡ none
-    go none q = refl
-    go (some b) q =
-        let z : _≡_ {A = ℕ} 0 1 = cc (always-colon t b q, never-colon t a e) in
-        absurd (omega arith)
-
--- "hex digits, either case": a text is read as the same text in lower case.
-pub either-case : (family : ℕ) (t : List ℕ) → strictOf family (map lower t) ≡ strictOf family t
-either-case = lower-strict

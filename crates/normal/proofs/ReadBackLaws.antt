@@ -3,7 +3,7 @@ use mathlib.Core.Path.{_≡_, refl, ap, _∙_}
 use mathlib.Core.Bool.{Bool, true, false, cond, _||_, not}
 use mathlib.Core.List.{List, [], _∷_, _++_, map}
 use mathlib.Core.Option.{Option, some}
-use Prim.Native.Nat.{ℕ, _+_, _-_, _^_, _≤_, _<_}
+use Prim.Native.Nat.{ℕ, _+_, _-_, _≤_, _<_}
 use native.Mathlib.Omega.{arith}
 use borrow.Author.Tests.{le-ltb, ltb-false}
 use lib.Dec.{eqb, ltb, lit<, lit≤}
@@ -12,7 +12,7 @@ use lib.Seq.{length-take-le, drop-drop}
 use Rattle.notation.specs.BigEndian.{AllBelow, digitsOf}
 use Rattle.notation.specs.Pieces.{contains, Lacks}
 use Rattle.notation.specs.Options.{every}
-use Rattle.notation.proofs.DigitLaws.{digits-length, digits-number, digits-below, below-take, below-drop}
+use Rattle.notation.proofs.DigitLaws.{digits-length, digits-below, below-take, below-drop}
 use Rattle.notation.proofs.SeparatedLaws.{lacks-append}
 use Rattle.notation.proofs.EveryLaws.{every-written}
 use Rattle.address.specs.declared.Address.{Address}
@@ -21,16 +21,15 @@ use Rattle.address.specs.Addresses.{IsAddress, family, number}
 use Rattle.address.specs.Answers.{precedence, readAnswer, noAddress, gives}
 use Rattle.address_groups.specs.Groups.{groupsOf, groupsAddress}
 use Rattle.address_groups.proofs.Claims.{halves-of-groups}
-use Rattle.digits.specs.Numerals.{digitOf, groupOf, decimal, hex}
+use Rattle.digits.specs.Numerals.{digitOf, groupOf, hex}
 use Rattle.digits.proofs.NumeralLaws.{hex-group}
 use Rattle.digits.proofs.SeparatedNumeralLaws.{numerals-lack}
 use Rattle.ipv4_text.specs.Dotted.{dottedText, dottedOf}
-use Rattle.ipv4_text.proofs.PartLaws.{every-decimal}
+use Rattle.ipv4_text.proofs.DottedLaws.{dotted-back}
 use Rattle.ipv6_text.specs.EightGroups.{eightOf}
-use Rattle.ipv6_text.proofs.ColonLaws.{colon-not-dotted}
+use Rattle.ipv6_text.proofs.ColonLaws.{colon-not-dotted, eight-colon}
+use Rattle.ipv6_text.proofs.SpellingLaws.{eight-spelling, gap-spelling}
 use Rattle.text.specs.Strict.{strictOf, strictAnswer}
-use Rattle.text.proofs.FamilyLaws.{eight-colon}
-use Rattle.text.proofs.SpellingLaws.{dotted-spelling, eight-spelling, gap-spelling}
 use Rattle.zero_runs.specs.Runs.{ZeroRun, longestRun, firstRun}
 use Rattle.zero_runs.proofs.RunLaws.{run-is}
 use Rattle.normal.specs.Normal.{groupsText, shortened, normalGroups, normalText}
@@ -72,12 +71,6 @@ module _ (gs : List ℕ) (long : length gs ≡ 8) (small : AllBelow 65536 gs) wh
 
 -- ---- addresses
 
-dotted-read : (v : ℕ) → v < 2 ^ 32 → dottedOf (normalText (V4 v)) ≡ some v
-unfolding normalText dottedText
-dotted-read v h =
-    dotted-spelling (map decimal (digitsOf 256 4 v)) (digitsOf 256 4 v) (every-decimal (digitsOf 256 4 v) (digits-below 256 (lit< tt) 4 v)) (digits-length 256 4 v)
-    ∙ ap some (digits-number 256 (lit< tt) 4 v h)
-
 -- a text of one family, read as that family and as either
 module _ (t : List ℕ) where
   strict-4 : (v : ℕ) → dottedOf t ≡ some v → (strictOf 0 t ≡ some (V4 v)) × (strictOf 4 t ≡ some (V4 v))
@@ -90,7 +83,7 @@ module _ (t : List ℕ) where
 
 pub text-read : (a : Address) → IsAddress a → (strictOf 0 (normalText a) ≡ some a) × (strictOf (family a) (normalText a) ≡ some a)
 unfolding normalText groupsOf
-text-read (V4 v) h = strict-4 (normalText (V4 v)) v (dotted-read v h)
+text-read (V4 v) h = strict-4 (normalText (V4 v)) v (dotted-back v h)
 text-read (V6 hi lo) h =
     let n = number (V6 hi lo) in
     let read = strict-6 (normalText (V6 hi lo)) (groupsOf hi lo) (normal-read (groupsOf hi lo) (digits-length 65536 8 n) (digits-below 65536 (lit< tt) 8 n)) in

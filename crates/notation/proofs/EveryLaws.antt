@@ -1,5 +1,6 @@
 -- Pieces that are read, each by itself. Assumes nothing.
-use mathlib.Core.Path.{_≡_, refl, ap}
+use mathlib.Core.Path.{_≡_, refl, ap, ap₂}
+use mathlib.Core.Logic.{_↔_}
 use mathlib.Core.List.{List, [], _∷_, map}
 use mathlib.Core.Option.{Option, some, none}
 use Prim.Native.Nat.{ℕ, suc, _<_}
@@ -44,6 +45,20 @@ pub reads-so : {f g : List ℕ → Option ℕ} {ps : List (List ℕ)} {xs : List
 unfolding every
 reads-so h done = refl
 reads-so h (more {p} {x} e r) = rw (h p x e, reads-so h r)
+
+-- piece by piece
+reads-map : {f : List ℕ → Option ℕ} {ps : List (List ℕ)} {xs : List ℕ} → Reads f ps xs → map f ps ≡ map some xs
+reads-map done = refl
+reads-map (more e r) = ap₂ _∷_ e (reads-map r)
+
+map-reads : (f : List ℕ → Option ℕ) (ps : List (List ℕ)) (xs : List ℕ) → map f ps ≡ map some xs → Reads f ps xs
+map-reads f [] [] e = done
+map-reads f [] (x ∷ xs) e = let z : _≡_ {A = ℕ} 0 1 = cc in absurd (omega arith)
+map-reads f (p ∷ ps) [] e = let z : _≡_ {A = ℕ} 0 1 = cc in absurd (omega arith)
+map-reads f (p ∷ ps) (x ∷ xs) e = let first : f p ≡ some x = cc in let rest : map f ps ≡ map some xs = cc in more first (map-reads f ps xs rest)
+
+pub every-exactly : (f : List ℕ → Option ℕ) (ps : List (List ℕ)) (xs : List ℕ) → (every f ps ≡ some xs) ↔ (map f ps ≡ map some xs)
+every-exactly f ps xs = (λ e. reads-map (every-reads f ps xs e), λ e. reads-so (λ p x q. q) (map-reads f ps xs e))
 
 -- ---- numbers, each written and read
 

@@ -1,14 +1,14 @@
 -- Bytes put into a buffer one after the other; what does not fit is left out. Assumes nothing.
 use mathlib.Core.Path.{_≡_, refl, sym, ap, ap₂, _∙_}
-use mathlib.Core.Bool.{Bool, true, false}
+use mathlib.Core.Bool.{Bool, true, false, cond}
 use mathlib.Core.List.{List, [], _∷_, _++_}
-use Prim.Native.Nat.{ℕ, zero, suc, _+_, _≤_, _<_}
+use Prim.Native.Nat.{ℕ, zero, suc, _+_, _-_, _≤_, _<_}
 use native.Mathlib.Nat.{add-zero, suc-add}
 use native.Mathlib.Numerals.{unary-clauses}
 use native.Mathlib.Omega.{arith}
 use borrow.Author.Tests.{le-leb, lt-leb}
-use lib.ListN.{length, take, set, length-append, take-append-drop}
-use lib.Seq.{take-length, take-take, take-append-seam}
+use lib.ListN.{length, take, drop, set, length-append, length-drop, take-append-drop}
+use lib.Seq.{take-length, take-take, take-all, take-append-seam, length-take-le}
 use Rattle.output.specs.Placing.{placed, behind, Puts, fitsAt, PutsAll}
 
 -- ---- placing, one byte of the buffer after the other
@@ -64,6 +64,35 @@ both (b ∷ s) u (suc i) (x ∷ l) =
     ∙ ap (λ r. x ∷ r) (both (b ∷ s) u i l)
     ∙ sym (step (b ∷ s ++ u) i x l)
 
+-- what stands before the index and behind the bytes that are put, and these
+before : (s : List ℕ) (i : ℕ) (l : List ℕ) → take i (placed s i l) ≡ take i l
+unfolding placed
+before s zero l = refl
+before s (suc i) [] = refl
+before s (suc i) (x ∷ l) = ap (take (suc i)) (step s i x l) ∙ ap (λ r. x ∷ r) (before s i l)
+
+beyond : (s : List ℕ) (i : ℕ) (l : List ℕ) → drop (behind s i l) (placed s i l) ≡ drop (behind s i l) l
+unfolding placed
+beyond s i [] = refl
+beyond [] i (x ∷ l) = ap (drop (behind [] i (x ∷ l))) (nothing i (x ∷ l))
+beyond (b ∷ s) zero (x ∷ l) =
+    let next : behind (b ∷ s) 0 (x ∷ l) ≡ suc (behind s 0 l) = omega arith in
+    ap₂ drop next (over b s x l) ∙ beyond s 0 l ∙ ap (λ (n : ℕ). drop n (x ∷ l)) (sym next)
+beyond (b ∷ s) (suc i) (x ∷ l) =
+    let next : behind (b ∷ s) (suc i) (x ∷ l) ≡ suc (behind (b ∷ s) i l) = omega arith in
+    ap₂ drop next (step (b ∷ s) i x l) ∙ beyond (b ∷ s) i l ∙ ap (λ (n : ℕ). drop n (x ∷ l)) (sym next)
+
+there : (s : List ℕ) (i : ℕ) (l : List ℕ) → take (behind s i l - i) (drop i (placed s i l)) ≡ take (behind s i l - i) s
+unfolding placed
+there s i [] = let none : behind s i [] - i ≡ 0 = omega arith in rw none
+there [] i (x ∷ l) = let none : behind [] i (x ∷ l) - i ≡ 0 = omega arith in rw none
+there (b ∷ s) zero (x ∷ l) =
+    let next : behind (b ∷ s) 0 (x ∷ l) - 0 ≡ suc (behind s 0 l - 0) = omega arith in
+    ap₂ take next (over b s x l) ∙ ap (λ r. b ∷ r) (there s 0 l) ∙ ap (λ (n : ℕ). take n (b ∷ s)) (sym next)
+there (b ∷ s) (suc i) (x ∷ l) =
+    let next : behind (b ∷ s) (suc i) (x ∷ l) - suc i ≡ behind (b ∷ s) i l - i = omega arith in
+    ap₂ (λ (n : ℕ) r. take n (drop (suc i) r)) next (step (b ∷ s) i x l) ∙ there (b ∷ s) i l ∙ ap (λ (n : ℕ). take n (b ∷ s)) (sym next)
+
 -- ---- calls that put
 
 -- no bytes
@@ -81,6 +110,29 @@ module _ {a b : List ℕ} {i j : ℕ} {s : List ℕ} (p : Puts a b i j s) where
   -- the buffer keeps its length
   pub puts-length : length b ≡ length a
   puts-length = ap length (p .buffer) ∙ same-length s i a
+
+  -- every byte before the index and behind those that are put stays
+  pub puts-before : take i b ≡ take i a
+  puts-before = ap (take i) (p .buffer) ∙ before s i a
+
+  pub puts-behind : drop j b ≡ drop j a
+  puts-behind = ap₂ drop (p .index) (p .buffer) ∙ beyond s i a ∙ ap (λ (n : ℕ). drop n a) (sym (p .index))
+
+  pub puts-there : take (j - i) (drop i b) ≡ take (j - i) s
+  puts-there =
+      ap₂ (λ (n : ℕ) r. take (n - i) (drop i r)) (p .index) (p .buffer)
+      ∙ there s i a
+      ∙ ap (λ (n : ℕ). take (n - i) s) (sym (p .index))
+
+  -- bytes that have room
+  pub puts-room : i + length s ≤ length a → (j ≡ i + length s) × (b ≡ take i a ++ (s ++ drop (i + length s) a))
+  unfolding placed
+  puts-room h =
+      let rest = drop (i + length s) a in
+      let all = take i a ++ (s ++ rest) in
+      let front = length-take-le i a (omega arith) in
+      let long : length all ≤ length a = omega (arith, length-append (take i a) (s ++ rest), length-append s rest, length-drop (i + length s) a) in
+      (omega (arith, p .index), p .buffer ∙ take-all (length a) all long)
 
   -- one call after another
   pub puts-then : {c : List ℕ} {k : ℕ} {u : List ℕ} → Puts b c j k u → Puts a c i k (s ++ u)
@@ -107,6 +159,18 @@ all-put {a} {b} {i} {j} {s} p h =
     let yes = le-leb (i + length s) (length a) h in
     let put : j ≡ i + length s = omega (arith, p .index) in
     record { index = rw yes put; buffer = rw yes (p .buffer) }
+
+module _ {a b : List ℕ} {i j : ℕ} {s : List ℕ} (p : PutsAll a b i j s) where
+  pub all-room : i + length s ≤ length a → Puts a b i j s
+  all-room h =
+      let yes = le-leb (i + length s) (length a) h in
+      let put : j ≡ i + length s = p .index ∙ ap (λ t. cond t (i + length s) i) yes in
+      record { index = omega arith; buffer = p .buffer ∙ ap (λ t. cond t (placed s i a) a) yes }
+
+  pub all-kept : length a < i + length s → (j ≡ i) × (b ≡ a)
+  all-kept h =
+      let no = lt-leb (i + length s) (length a) h in
+      (p .index ∙ ap (λ t. cond t (i + length s) i) no, p .buffer ∙ ap (λ t. cond t (placed s i a) a) no)
 
 -- bytes that have no room
 pub all-short : (l : List ℕ) (i : ℕ) (s : List ℕ) → length l < i + length s → PutsAll l l i i s

@@ -14,7 +14,6 @@ use Rattle.range_text.proofs.LineReadLaws.{line-free}
 use Rattle.range_lines.specs.ProgramForm.{Program, no-input, last, first}
 use Rattle.range_lines.specs.Lines.{programText, turnUsed, turnText, turnLeft, fedAll}
 use Rattle.range_lines.proofs.LinesLaws as lines
-use Rattle.range_lines.proofs.LinesLaws.{begun}
 use Rattle.range_lines.proofs.CutLaws.{all-fed}
 
 -- ---- lines
@@ -82,7 +81,8 @@ program-exactly input text =
 -- One turn, where p is begun, takes a part of the piece: what it answers, and what is still to be written for all that is left, are
 -- together what was to be written.
 pub one-turn : (p piece rest : List ℕ) → Lacks 10 p
-    → (begun p (piece ++ rest) ≡ turnText p piece ++ begun (turnLeft p piece) (drop (turnUsed piece) piece ++ rest)) × Lacks 10 (turnLeft p piece)
+    → (programText (p ++ (piece ++ rest)) ≡ turnText p piece ++ programText (turnLeft p piece ++ (drop (turnUsed piece) piece ++ rest))) × Lacks 10 (turnLeft p piece)
+unfolding programText
 one-turn p piece rest l = (lines.turn-law p piece rest l, lines.left-lacks p piece l)
 
 -- Wherever the input is cut into pieces: the answers of all the turns and the answer at the end of the input, end to end, are the answer to

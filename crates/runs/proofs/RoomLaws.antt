@@ -1,19 +1,19 @@
 -- The records of a range, all of them put or none. Assumes nothing.
-use mathlib.Core.Path.{_≡_, refl, sym, ap, subst, _∙_}
-use mathlib.Core.Bool.{true, false, cond}
+use mathlib.Core.Path.{_≡_, sym, ap, subst, _∙_}
+use mathlib.Core.Bool.{true, false}
 use mathlib.Core.List.{List, _++_}
 use Prim.Native.Nat.{ℕ, _+_, _-_, _*_, _/_, _^_, _≤_, _<_}
 use native.Mathlib.Nat.{mul-comm, mul-le-mul-right}
 use native.Mathlib.Omega.{arith}
-use borrow.Author.Tests.{le-leb, lt-leb, leb-true, leb-false}
+use borrow.Author.Tests.{le-leb, leb-true, leb-false}
 use lib.Dec.{leb}
-use lib.ListN.{length, take, drop, length-append, length-drop}
-use lib.Seq.{length-take-le, take-all, take-at, drop-at, drop-drop}
+use lib.ListN.{length, take, drop}
+use lib.Seq.{length-take-le, drop-at}
 use Rattle.cover.specs.Blocks.{rangeBlocks}
 use Rattle.cover.proofs.Claims.{at-most}
 use Rattle.cover.proofs.Range.{range-done, range-largest, range-fewest}
-use Rattle.output.specs.Placing.{placed, PutsAll}
-use Rattle.output.proofs.PlacingLaws.{all-short, all-nothing}
+use Rattle.output.specs.Placing.{PutsAll}
+use Rattle.output.proofs.PlacingLaws.{puts-before, puts-behind, puts-room, all-room, all-kept, all-short, all-nothing}
 use Rattle.records.specs.Records.{recordSize, recordsOf, readRecords}
 use Rattle.records.proofs.RecordLaws.{records-length, records-back}
 
@@ -65,32 +65,20 @@ module _ (W first last : ℕ) where
   -- what is then in the buffer
   module _ {old new : List ℕ} {at next : ℕ} (p : PutsAll old new at next records) where
     pub kept : length old < at + length records → (next ≡ at) × (new ≡ old)
-    kept h =
-        let no = lt-leb (at + length records) (length old) h in
-        (p .index ∙ ap (λ b. cond b (at + length records) at) no, p .buffer ∙ ap (λ b. cond b (placed records at old) old) no)
+    kept = all-kept p
 
     pub held : 256 ^ (W / 8) ≡ 2 ^ W → last < 2 ^ W → at + length records ≤ length old
         → (readRecords W (length (rangeBlocks W first last)) (drop at new) ≡ rangeBlocks W first last)
         × (next ≡ at + recordSize W * length (rangeBlocks W first last))
         × (take at new ≡ take at old)
         × (drop next new ≡ drop next old)
-    unfolding placed
     held whole top h =
-        let yes = le-leb (at + length records) (length old) h in
-        let front = take at old in
+        let put = all-room p h in
+        let all = puts-room put h in
         let behind = drop (at + length records) old in
-        let short : length front ≡ at = length-take-le at old (omega arith) in
-        let all = front ++ (records ++ behind) in
-        let long : length all ≤ length old = omega (arith, length-append front (records ++ behind), length-append records behind, length-drop (at + length records) old) in
-        let is : new ≡ all = p .buffer ∙ ap (λ b. cond b (placed records at old) old) yes ∙ take-all (length old) all long in
-        let end : next ≡ at + length records = p .index ∙ ap (λ b. cond b (at + length records) at) yes in
-        let rest : drop at new ≡ records ++ behind = ap (drop at) is ∙ drop-at front (records ++ behind) at short in (
+        let rest : drop at new ≡ records ++ behind = ap (drop at) (all .1) ∙ drop-at (take at old) (records ++ behind) at (length-take-le at old (omega arith)) in (
           ap (readRecords W (length (rangeBlocks W first last))) rest ∙ records-back W whole (rangeBlocks W first last) (range-fewest W first last top .blocks) behind,
-          end ∙ ap (λ (n : ℕ). at + n) (records-length W (rangeBlocks W first last)),
-          ap (take at) is ∙ take-at front (records ++ behind) at short,
-          ap (λ (n : ℕ). drop n new) end
-              ∙ sym (drop-drop (length records) at new)
-              ∙ ap (drop (length records)) rest
-              ∙ drop-at records behind (length records) refl
-              ∙ ap (λ (n : ℕ). drop n old) (sym end),
+          all .0 ∙ ap (λ (n : ℕ). at + n) (records-length W (rangeBlocks W first last)),
+          puts-before put,
+          puts-behind put,
         )

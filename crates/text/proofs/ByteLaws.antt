@@ -18,8 +18,8 @@ use Rattle.address_groups.specs.Groups.{groupsAddress}
 use Rattle.digits.specs.Numerals.{digitOf, groupOf}
 use Rattle.digits.proofs.NumeralLaws.{no-digit, group-digits}
 use Rattle.ipv4_text.specs.Dotted.{dottedOf}
+use Rattle.ipv4_text.proofs.DottedLaws.{dotted-lacks}
 use Rattle.ipv6_text.specs.EightGroups.{tailOf, piecesOf, sideOf, gapOf, filled, eight, eightOf}
-use Rattle.ipv6_text.proofs.ColonLaws.{dotted-lacks}
 use Rattle.text.specs.Strict.{strictOf}
 
 nothing : {A : Type 0} {a : A} {P : Type 0} → none ≡ some a → P

@@ -3,17 +3,17 @@ use mathlib.Core.Path.{_≡_, refl, sym}
 use mathlib.Core.Logic.{_↔_}
 use mathlib.Core.Bool.{Bool, true, false, cond, _&&_, and-eq-true-iff, false≢true}
 use mathlib.Core.List.{List, [], _∷_}
-use mathlib.Core.Option.{some, none}
+use mathlib.Core.Option.{some, none, Option·getD}
 use Prim.Native.Nat.{ℕ, _+_, _≤_, _<_}
 use native.Mathlib.Decide.{ℕ-discrete}
 use native.Mathlib.Omega.{arith}
-use borrow.Author.Tests.{ne-eqb, eq-eqb, eqb-true}
-use lib.Dec.{eqb, ltb}
+use borrow.Author.Tests.{ne-eqb, eq-eqb, eqb-true, leb-true}
+use lib.Dec.{eqb, ltb, leb}
 use lib.ListN.{length, getD}
 use Rattle.address.specs.declared.Refusal.{Refusal}
 use Rattle.address.specs.Answers.{Answer, refusalNumber, missing, refuses, writeRefusal, writeAnswer, writeLeaves}
 use Rattle.address.specs.declared.Refusal.the-variants.{TextTooLong, Malformed, NoRoom, LengthTooLarge, BitsBeyondLength, NoClass, HostTooLarge, FirstAboveLast, WrongFamily}
-use Rattle.words.specs.Words.{table, wordsIn, refusalWords, wordsText, wordsRefusal}
+use Rattle.words.specs.Words.{table, wordsIn, refusalWords, wordsText, wordsRefusal, wordsRefusal, printable}
 
 -- ---- the table's numbers
 
@@ -136,3 +136,32 @@ module _ (n : ℕ) where
 pub not-false : (t : Bool) → ¬ (t ≡ false) → t ≡ true
 not-false true n = refl
 not-false false n = absurd (n refl)
+
+-- ---- how long the words are
+
+-- at most 54 printable bytes
+abbrev good : List ℕ → Bool
+good t = leb (length t) 54 && printable t
+
+-- a row's words are good where all rows' are
+all : List (ℕ × List ℕ) → Bool
+all [] = true
+all (w ∷ ws) = good (w .1) && all ws
+
+row-good : (n : ℕ) (ws : List (ℕ × List ℕ)) → all ws ≡ true → good (Option·getD (wordsIn n ws) []) ≡ true
+unfolding wordsIn printable all
+row-good n [] h = refl
+row-good n (w ∷ ws) h = pick (eqb n (w .0)) (good (w .1)) refl (all ws) refl (row-good n ws) h
+  where
+    pick : (t a : Bool) → good (w .1) ≡ a → (b : Bool) → all ws ≡ b → (all ws ≡ true → good (Option·getD (wordsIn n ws) []) ≡ true)
+        → (a && b) ≡ true → good (Option·getD (cond t (some (w .1)) (wordsIn n ws)) []) ≡ true
+    pick true true e b f ih k = e
+    pick false true e true f ih k = ih f
+    pick t false e b f ih k = absurd (false≢true k)
+    pick false true e false f ih k = absurd (false≢true k)
+
+pub words-good : (n : ℕ) → (length (wordsText n) ≤ 54) × (printable (wordsText n) ≡ true)
+unfolding refusalWords printable all
+words-good n =
+    let both = and-eq-true-iff (leb (length (wordsText n)) 54) (printable (wordsText n)) .0 (row-good n table refl) in
+    (leb-true (length (wordsText n)) 54 (both .0), both .1)

@@ -1,10 +1,10 @@
 -- The refusals in words (01, "Why a call says no"). Assumes nothing.
-use mathlib.Core.Bool.{cond}
+use mathlib.Core.Bool.{cond, Bool, true, _&&_}
 use mathlib.Core.List.{List, [], _∷_}
 use mathlib.Core.Option.{Option, some, none, Option·getD}
 use Prim.Native.Nat.{ℕ}
 use lib.Dec.{eqb}
-use Rattle.notation.specs.Ascii.{ascii}
+use Rattle.notation.specs.Ascii.{ascii, within}
 use Rattle.address.specs.Answers.{missing, precedence, refusal}
 
 -- the table's numbers, each with its words
@@ -37,3 +37,8 @@ wordsText n = Option·getD (refusalWords n) []
 unfoldable pub wordsRefusal : ℕ → ℕ
 unfolding refusal
 wordsRefusal n = refusal precedence ((2, missing (refusalWords n)) ∷ [])
+
+-- every byte is printable ASCII
+unfoldable pub printable : List ℕ → Bool
+printable [] = true
+printable (c ∷ t) = within 32 126 c && printable t

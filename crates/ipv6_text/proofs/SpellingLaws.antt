@@ -1,4 +1,4 @@
--- Any spelling of parts or groups is read as its numbers, with `::` for any of the zeros. Assumes nothing.
+-- Any spelling of groups is read as its numbers, with `::` for any of the zeros. Assumes nothing.
 use mathlib.Core.Path.{_≡_, refl, sym, ap, _∙_}
 use mathlib.Core.Bool.{Bool, true, false}
 use mathlib.Core.List.{List, [], _∷_, _++_, append-assoc, append-nil}
@@ -9,26 +9,13 @@ use borrow.Author.Tests.{eq-eqb, le-leb, lt-ltb, le-ltb}
 use lib.Dec.{eqb, ltb, lit≤}
 use lib.ListN.{length, replicate, length-append}
 use lib.Seq.{take-append-seam, drop-append-add}
-use Rattle.notation.specs.BigEndian.{numberOf}
 use Rattle.notation.specs.Pieces.{separated, splitOn, Lacks, Each}
 use Rattle.notation.specs.Options.{every}
 use Rattle.notation.proofs.SeparatedLaws.{lacks-cons, split-separated, separated-cons}
-use Rattle.notation.proofs.EveryLaws.{Reads, done, more, every-reads, reads-each, reads-length}
-use Rattle.digits.specs.Numerals.{digitOf, partOf, groupOf}
+use Rattle.notation.proofs.EveryLaws.{Reads, done, more, every-reads, reads-each}
+use Rattle.digits.specs.Numerals.{digitOf, groupOf}
 use Rattle.digits.proofs.NumeralLaws.{no-digit, group-digits}
-use Rattle.ipv4_text.specs.Dotted.{dottedOf}
-use Rattle.ipv4_text.proofs.PartLaws.{part-lacks}
 use Rattle.ipv6_text.specs.EightGroups.{piecesOf, sideOf, gapOf, eightOf}
-
--- ---- IPv4
-
--- four parts with single dots
-pub dotted-spelling : (ps : List (List ℕ)) (xs : List ℕ) → every (partOf 255) ps ≡ some xs → length xs ≡ 4 → dottedOf (separated 46 ps) ≡ some (numberOf 256 xs)
-unfolding dottedOf
-dotted-spelling ps xs e h =
-    let r = every-reads (partOf 255) ps xs e in
-    let long : length ps ≡ 4 = reads-length r ∙ h in
-    rw (split-separated 46 ps (omega arith) (reads-each part-lacks r), eq-eqb (length ps) 4 long, e)
 
 -- ---- the first `::`
 
