@@ -1,14 +1,13 @@
 -- Block text: what the form has is what is read, and what reading answers. Assumes nothing.
-use mathlib.Core.Path.{_≡_, refl, sym, ap, ap₂, subst, _∙_}
-use mathlib.Core.Bool.{Bool, true, false, cond}
+use mathlib.Core.Path.{_≡_, refl, sym, ap₂, subst, _∙_}
 use mathlib.Core.List.{List, _∷_, _++_}
 use mathlib.Core.Option.{Option, some, none}
-use Prim.Native.Nat.{ℕ, suc, _-_, _%_, _^_, _≤_}
+use Prim.Native.Nat.{ℕ, _-_, _%_, _^_, _≤_}
 use native.Mathlib.Decide.{decLe, ℕ-discrete}
 use native.Mathlib.Omega.{arith}
 use borrow.Author.Tests.{eq-eqb, ne-eqb}
-use lib.ListN.{length, take, drop}
-use Rattle.notation.specs.Pieces.{contains, indexOf, Lacks}
+use lib.ListN.{length}
+use Rattle.notation.specs.Pieces.{Lacks}
 use Rattle.notation.proofs.SeparatedLaws.{seam}
 use Rattle.notation.proofs.OptionLaws.{impossible, nothing-there}
 use Rattle.address.specs.declared.Address.{Address}
@@ -20,19 +19,18 @@ use Rattle.address.specs.Answers.{precedence, Answer, gives, noBlock, readAnswe
 use Rattle.address.specs.Blocks.{blockReasons}
 use Rattle.address.proofs.BlockLaws.{refusal-length, refusal-bits, refusal-none, read-valid, read-refused}
 use Rattle.address.proofs.Claims.{gives-one, gives-refuses}
-use Rattle.digits.specs.Numerals.{digitOf, partOf, decimal}
+use Rattle.digits.specs.Numerals.{digitOf, decimal}
 use Rattle.digits.proofs.NumeralLaws.{decimal-part}
 use Rattle.text.specs.Strict.{strictOf}
 use Rattle.text.proofs.ByteLaws.{strict-lacks}
-use Rattle.blocks.specs.BlockText.{withLength, blockOf, blockTextAnswer, blockText}
-use Rattle.blocks.proofs.BlockTextLaws.{answer-long, answer-malformed, answer-checked}
+use Rattle.blocks.specs.BlockText.{blockOf, blockTextAnswer, blockText}
+use Rattle.blocks.proofs.BlockTextLaws.{block-parts, answer-long, answer-malformed, answer-checked}
 use Rattle.grammar.specs.StrictForm.{IPv4Text, StrictForm, either-4}
 use Rattle.grammar.specs.BlockForm.{BlockForm, prefix, BlockCall, too-long, not-block, length-above, bits-beyond, read-block, WrittenBlock, normal-prefix}
 use Rattle.grammar.proofs.NumberLaws.{size-reads, reads-size, size-999, size-spelling}
 use Rattle.grammar.proofs.LengthLaws.{block-most}
 use Rattle.grammar.proofs.StrictFormLaws.{form-reads, reads-0, text-spelling}
 use Rattle.grammar.proofs.NormalFormLaws.{normal-written, written-normal}
-use Rattle.grammar.proofs.NetworkFormLaws.{around}
 
 abbrev value : Address → ℕ → Block
 value a n = record { address = a; length = n }
@@ -51,26 +49,10 @@ block-reads (prefix {t} {u} {a} {n} s p) =
     let w = seam 47 t u (strict-slash t a e) in
     rw (w .0, w .1, w .2, e, size-reads 999 p (size-999 p))
 
-with-says : (o : Option Address) (p : Option ℕ) (b : Block) → withLength o p ≡ some b → (o ≡ some (b .address)) × (p ≡ some (b .length))
-with-says none p b e = impossible e
-with-says (some a) none b e = impossible e
-with-says (some a) (some n) b e = let is : value a n ≡ b = cc in (ap (λ (c : Block). some (c .address)) is, ap (λ (c : Block). some (c .length)) is)
-
 pub reads-block : (t : List ℕ) (b : Block) → blockOf t ≡ some b → BlockForm t (b .address) (b .length)
-unfolding blockOf
-reads-block t b e = go (contains 47 t) refl e
-  where
-    before : List ℕ
-    before = take (indexOf 47 t) t
-
-    behind : List ℕ
-    behind = drop (suc (indexOf 47 t)) t
-
-    go : (p : Bool) → contains 47 t ≡ p → cond p (withLength (strictOf 0 before) (partOf 999 behind)) none ≡ some b → BlockForm t (b .address) (b .length)
-    go true q k =
-        let s = with-says (strictOf 0 before) (partOf 999 behind) b k in
-        subst (λ u. BlockForm u (b .address) (b .length)) (around 47 t q) (prefix (reads-0 before (b .address) (s .0)) (reads-size 999 behind (b .length) (s .1) .0))
-    go false q k = impossible k
+reads-block t b e =
+    let (is, address, size) = block-parts t b e in
+    subst (λ u. BlockForm u (b .address) (b .length)) is (prefix (reads-0 _ (b .address) address) (reads-size 999 _ (b .length) size .0))
 
 -- ---- the call
 

@@ -1,9 +1,9 @@
 -- Eight groups, or two sides of `::`: the texts, and what is read of them. Assumes nothing.
-use mathlib.Core.Path.{_≡_, refl, ap, subst, subst₂, _∙_}
-use mathlib.Core.Bool.{Bool, true, false, cond, _&&_}
+use mathlib.Core.Path.{_≡_, refl, subst, subst₂, _∙_}
+use mathlib.Core.Bool.{Bool, true, false, cond}
 use mathlib.Core.List.{List, [], _∷_, _++_, append-nil}
 use mathlib.Core.Option.{Option, some, none}
-use Prim.Native.Nat.{ℕ, zero, suc, _+_, _-_, _≤_, _<_}
+use Prim.Native.Nat.{ℕ, _+_, _-_, _≤_, _<_}
 use native.Mathlib.Omega.{arith}
 use borrow.Author.Tests.{eq-eqb, eqb-true, le-leb, leb-true, lt-ltb, le-ltb, ltb-true}
 use lib.Dec.{eqb, leb, ltb}
@@ -11,6 +11,7 @@ use lib.ListN.{length, take, drop, replicate, length-append, length-replicate}
 use lib.Seq.{take-append-seam, drop-append-add}
 use Rattle.notation.proofs.OptionLaws.{impossible}
 use Rattle.ipv6_text.specs.EightGroups.{sideOf, gapOf, filled, eight, eightOf}
+use Rattle.ipv6_text.proofs.GapLaws.{gap-text}
 use Rattle.grammar.specs.Rfc3986.{with-zeros}
 use Rattle.grammar.proofs.SideLaws.{Run, Side, nothing, groups, side-reads, reads-side, side-gap}
 
@@ -28,27 +29,6 @@ eight-reads (around {s} {r} {ws} {xs} left right few) =
     let gap : gapOf (s ++ u) ≡ length s = side-gap left u ∙ omega arith in
     let test : ltb (length s) (length (s ++ u)) ≡ true = lt-ltb (length s) (length (s ++ u)) (omega (arith, length-append s u)) in
     rw (gap, test, take-append-seam s u, drop-append-add s u 2, side-reads left, side-reads right, le-leb (length ws + length xs) 7 few)
-
--- a text with `::` is what stands before it, and behind it
-gap-text : (t : List ℕ) → gapOf t < length t → take (gapOf t) t ++ 58 ∷ 58 ∷ drop (gapOf t + 2) t ≡ t
-unfolding gapOf
-gap-text [] h = absurd (omega arith)
-gap-text (x ∷ []) h = absurd (omega arith)
-gap-text (x ∷ y ∷ t) h = go (eqb x 58) refl (eqb y 58) refl h (gap-text (y ∷ t))
-  where
-    later : gapOf (y ∷ t) < suc (length t) → (gapOf (y ∷ t) < suc (length t) → take (gapOf (y ∷ t)) (y ∷ t) ++ 58 ∷ 58 ∷ drop (gapOf (y ∷ t) + 2) (y ∷ t) ≡ y ∷ t)
-        → take (suc (gapOf (y ∷ t))) (x ∷ y ∷ t) ++ 58 ∷ 58 ∷ drop (suc (gapOf (y ∷ t)) + 2) (x ∷ y ∷ t) ≡ x ∷ y ∷ t
-    later k ih =
-        let g = gapOf (y ∷ t) in
-        let e : suc g + 2 ≡ suc (g + 2) = omega arith in
-        ap (λ (n : ℕ). x ∷ (take g (y ∷ t) ++ 58 ∷ 58 ∷ drop n (x ∷ y ∷ t))) e ∙ ap (λ s. x ∷ s) (ih k)
-
-    go : (p : Bool) → eqb x 58 ≡ p → (q : Bool) → eqb y 58 ≡ q → let g = cond (p && q) zero (suc (gapOf (y ∷ t))) in
-        g < suc (suc (length t)) → (gapOf (y ∷ t) < suc (length t) → take (gapOf (y ∷ t)) (y ∷ t) ++ 58 ∷ 58 ∷ drop (gapOf (y ∷ t) + 2) (y ∷ t) ≡ y ∷ t)
-        → take g (x ∷ y ∷ t) ++ 58 ∷ 58 ∷ drop (g + 2) (x ∷ y ∷ t) ≡ x ∷ y ∷ t
-    go true e true f k ih = let a = eqb-true x 58 e in let b = eqb-true y 58 f in rw (a, b)
-    go true e false f k ih = later (omega arith) ih
-    go false e q f k ih = later (omega arith) ih
 
 all-run : {t gs : List ℕ} → Side true t gs → length gs ≡ 8 → Eight t gs
 all-run nothing e = absurd (omega arith)

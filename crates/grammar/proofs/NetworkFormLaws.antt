@@ -1,15 +1,16 @@
 -- Network text: what the form has is what is read, and what reading answers and leaves in the buffer. Assumes nothing.
 use mathlib.Core.Path.{_≡_, refl, sym, ap, subst, subst₂, _∙_}
-use mathlib.Core.Bool.{Bool, true, false, cond, _&&_, _||_}
+use mathlib.Core.Bool.{Bool, true, false, cond, _&&_}
 use mathlib.Core.List.{List, [], _∷_, _++_, append-nil}
 use mathlib.Core.Option.{Option, some, none, Option·map}
 use Prim.Native.Nat.{ℕ, suc, _+_, _-_, _*_, _/_, _≤_, _<_, max}
 use native.Mathlib.Decide.{decLe, decLt}
 use native.Mathlib.Omega.{arith}
-use borrow.Author.Tests.{le-leb, lt-leb, lt-ltb, le-ltb, eqb-true}
-use lib.Dec.{leb, eqb}
-use lib.ListN.{length, take, drop, replicate}
+use borrow.Author.Tests.{le-leb, lt-leb, lt-ltb, le-ltb}
+use lib.Dec.{leb}
+use lib.ListN.{length, drop, replicate}
 use Rattle.notation.specs.Pieces.{contains, indexOf, Lacks}
+use Rattle.notation.proofs.PieceLaws.{around}
 use Rattle.notation.proofs.SeparatedLaws.{seam}
 use Rattle.notation.proofs.OptionLaws.{impossible, nothing-there}
 use Rattle.address.specs.declared.Refusal.the-variants.{Malformed, LengthTooLarge, NoRoom}
@@ -124,17 +125,6 @@ sized-says : (o : Option ℕ) (g : Option (List ℕ)) (n : Network) → sized o 
 sized-says none g n e = impossible e
 sized-says (some size) none n e = impossible e
 sized-says (some size) (some bs) n e = (size, bs, refl, refl, cc)
-
--- a text with its first b in the middle
-pub around : (b : ℕ) (t : List ℕ) → contains b t ≡ true → take (indexOf b t) t ++ b ∷ drop (suc (indexOf b t)) t ≡ t
-unfolding contains indexOf
-around b [] h = let z : _≡_ {A = ℕ} 0 1 = cc in absurd (omega arith)
-around b (x ∷ t) h = go (eqb x b) refl h (around b t)
-  where
-    go : (p : Bool) → eqb x b ≡ p → (p || contains b t) ≡ true → (contains b t ≡ true → take (indexOf b t) t ++ b ∷ drop (suc (indexOf b t)) t ≡ t)
-        → take (cond p 0 (suc (indexOf b t))) (x ∷ t) ++ b ∷ drop (suc (cond p 0 (suc (indexOf b t)))) (x ∷ t) ≡ x ∷ t
-    go true q k ih = ap (λ (y : ℕ). y ∷ t) (sym (eqb-true x b q))
-    go false q k ih = ap (λ r. x ∷ r) (ih k)
 
 abbrev Form : List ℕ → Network → Type 0
 Form t n = NetworkForm t (n .size) (n .bytes)

@@ -1,13 +1,13 @@
 -- The first `::` of a text, and the groups before it. Assumes nothing.
 use mathlib.Core.Path.{_≡_, refl, sym, ap, ap₂, _∙_}
 use mathlib.Core.Bool.{Bool, true, false, cond, _&&_}
-use mathlib.Core.List.{List, [], _∷_}
+use mathlib.Core.List.{List, [], _∷_, _++_}
 use mathlib.Core.Option.{Option, some, none}
 use Prim.Native.Nat.{ℕ, zero, suc, _+_, _-_, _≤_, _<_}
 use native.Mathlib.Numerals.{add-one}
 use native.Mathlib.Decide.{decLt}
 use native.Mathlib.Omega.{arith}
-use borrow.Author.Tests.{eq-eqb, ne-eqb, le-leb, lt-leb}
+use borrow.Author.Tests.{eq-eqb, eqb-true, ne-eqb, le-leb, lt-leb}
 use lib.Dec.{eqb, leb}
 use lib.ListN.{length, take, drop, getD, length-drop}
 use lib.Seq.{take-all, take-take, take-add, drop-at, length-take-le}
@@ -272,3 +272,25 @@ unfolding gapFirst
 gap-both [] h n = absurd (omega arith)
 gap-both (x ∷ []) h n = absurd (omega arith)
 gap-both (x ∷ y ∷ t) h n = sym (rw (eq-eqb x 58 n))
+
+-- ---- what stands before `::`, and behind it
+
+pub gap-text : (t : List ℕ) → gapOf t < length t → take (gapOf t) t ++ 58 ∷ 58 ∷ drop (gapOf t + 2) t ≡ t
+unfolding gapOf
+gap-text [] h = absurd (omega arith)
+gap-text (x ∷ []) h = absurd (omega arith)
+gap-text (x ∷ y ∷ t) h = go (eqb x 58) refl (eqb y 58) refl h (gap-text (y ∷ t))
+  where
+    later : gapOf (y ∷ t) < suc (length t) → (gapOf (y ∷ t) < suc (length t) → take (gapOf (y ∷ t)) (y ∷ t) ++ 58 ∷ 58 ∷ drop (gapOf (y ∷ t) + 2) (y ∷ t) ≡ y ∷ t)
+        → take (suc (gapOf (y ∷ t))) (x ∷ y ∷ t) ++ 58 ∷ 58 ∷ drop (suc (gapOf (y ∷ t)) + 2) (x ∷ y ∷ t) ≡ x ∷ y ∷ t
+    later k ih =
+        let g = gapOf (y ∷ t) in
+        let e : suc g + 2 ≡ suc (g + 2) = omega arith in
+        ap (λ (n : ℕ). x ∷ (take g (y ∷ t) ++ 58 ∷ 58 ∷ drop n (x ∷ y ∷ t))) e ∙ ap (λ s. x ∷ s) (ih k)
+
+    go : (p : Bool) → eqb x 58 ≡ p → (q : Bool) → eqb y 58 ≡ q → let g = cond (p && q) zero (suc (gapOf (y ∷ t))) in
+        g < suc (suc (length t)) → (gapOf (y ∷ t) < suc (length t) → take (gapOf (y ∷ t)) (y ∷ t) ++ 58 ∷ 58 ∷ drop (gapOf (y ∷ t) + 2) (y ∷ t) ≡ y ∷ t)
+        → take g (x ∷ y ∷ t) ++ 58 ∷ 58 ∷ drop (g + 2) (x ∷ y ∷ t) ≡ x ∷ y ∷ t
+    go true e true f k ih = let a = eqb-true x 58 e in let b = eqb-true y 58 f in rw (a, b)
+    go true e false f k ih = later (omega arith) ih
+    go false e q f k ih = later (omega arith) ih

@@ -1,11 +1,11 @@
 -- What a normal text is read as: its numbers, wherever `::` stands for zeros. Assumes nothing.
 use mathlib.Core.Path.{_≡_, refl, ap, _∙_}
-use mathlib.Core.Bool.{Bool, true, false, cond, _||_, not}
-use mathlib.Core.List.{List, [], _∷_, _++_, map}
-use mathlib.Core.Option.{Option, some}
+use mathlib.Core.Bool.{Bool, true, false, cond}
+use mathlib.Core.List.{List, _∷_, _++_, map}
+use mathlib.Core.Option.{some}
 use Prim.Native.Nat.{ℕ, _+_, _-_, _≤_, _<_}
 use native.Mathlib.Omega.{arith}
-use borrow.Author.Tests.{le-ltb, ltb-false}
+use borrow.Author.Tests.{ltb-false}
 use lib.Dec.{eqb, ltb, lit<, lit≤}
 use lib.ListN.{length, take, drop, replicate, length-drop, take-append-drop}
 use lib.Seq.{length-take-le, drop-drop}
@@ -18,7 +18,7 @@ use Rattle.notation.proofs.EveryLaws.{every-written}
 use Rattle.address.specs.declared.Address.{Address}
 use Rattle.address.specs.declared.Address.the-variants.{V4, V6}
 use Rattle.address.specs.Addresses.{IsAddress, family, number}
-use Rattle.address.specs.Answers.{precedence, readAnswer, noAddress, gives}
+use Rattle.address.specs.Answers.{gives}
 use Rattle.address_groups.specs.Groups.{groupsOf, groupsAddress}
 use Rattle.address_groups.proofs.Claims.{halves-of-groups}
 use Rattle.digits.specs.Numerals.{digitOf, groupOf, hex}
@@ -29,7 +29,8 @@ use Rattle.ipv4_text.proofs.DottedLaws.{dotted-back}
 use Rattle.ipv6_text.specs.EightGroups.{eightOf}
 use Rattle.ipv6_text.proofs.ColonLaws.{colon-not-dotted, eight-colon}
 use Rattle.ipv6_text.proofs.SpellingLaws.{eight-spelling, gap-spelling}
-use Rattle.text.specs.Strict.{strictOf, strictAnswer}
+use Rattle.text.specs.Strict.{strictOf, knownFamily, strictAnswer}
+use Rattle.text.proofs.StrictLaws.{gives-strict}
 use Rattle.zero_runs.specs.Runs.{ZeroRun, longestRun, firstRun}
 use Rattle.zero_runs.proofs.RunLaws.{run-is}
 use Rattle.normal.specs.Normal.{groupsText, shortened, normalGroups, normalText}
@@ -92,23 +93,16 @@ text-read (V6 hi lo) h =
 
 -- ---- answers
 
-family-asked : (a : Address) → (eqb (family a) 4 || (eqb (family a) 6 || eqb (family a) 0)) ≡ true
+family-asked : (a : Address) → knownFamily (family a) ≡ true
 family-asked (V4 v) = refl
 family-asked (V6 hi lo) = refl
-
-strict-gives : (f : ℕ) (t : List ℕ) (a : Address) → (eqb f 4 || (eqb f 6 || eqb f 0)) ≡ true → length t ≤ 64 → strictOf f t ≡ some a → strictAnswer f t ≡ gives a
-unfolding strictAnswer readAnswer
-strict-gives f t a asked short e = go (eqb f 4 || (eqb f 6 || eqb f 0)) (ltb 64 (length t)) (strictOf f t) asked (le-ltb 64 (length t) short) e
-  where
-    go : (x y : Bool) (o : Option Address) → x ≡ true → y ≡ false → o ≡ some a → readAnswer precedence noAddress ((9, not x) ∷ (1, y) ∷ []) o ≡ gives a
-    go x y o p q r = rw (p, q, r)
 
 pub text-answer : (a : Address) → IsAddress a → (strictAnswer 0 (normalText a) ≡ gives a) × (strictAnswer (family a) (normalText a) ≡ gives a)
 text-answer a h =
     let t = normalText a in
     let short = text-most a in
     let read = text-read a h in
-    (strict-gives 0 t a refl (omega arith) (read .0), strict-gives (family a) t a (family-asked a) (omega arith) (read .1))
+    (gives-strict 0 t refl a (omega arith) (read .0), gives-strict (family a) t (family-asked a) a (omega arith) (read .1))
 
 -- ---- what no normal text holds
 

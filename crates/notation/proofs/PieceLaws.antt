@@ -1,10 +1,11 @@
 -- The pieces of a text, and its first separator. Assumes nothing.
-use mathlib.Core.Path.{_≡_, refl}
+use mathlib.Core.Path.{_≡_, refl, sym, ap}
 use mathlib.Core.Bool.{Bool, true, false, cond, _||_}
-use mathlib.Core.List.{List, [], _∷_}
+use mathlib.Core.List.{List, [], _∷_, _++_}
 use Prim.Native.Nat.{ℕ, zero, suc, _≤_, _<_}
 use native.Mathlib.Decide.{decLt}
 use native.Mathlib.Omega.{arith}
+use borrow.Author.Tests.{eqb-true}
 use lib.Dec.{eqb}
 use lib.ListN.{length, take, drop}
 use lib.Seq.{take-all}
@@ -63,3 +64,14 @@ split-first b t = elim (decLt (indexOf b t) (length t)) [
   | yes h ↦ (splitOn b (drop (suc (indexOf b t)) t), split-found b t h)
   | no n ↦ let l : length t ≤ indexOf b t = omega arith in ([], rw (take-all (indexOf b t) t l) (split-last b t l))
 ]
+
+-- a text with its first b in the middle
+pub around : (b : ℕ) (t : List ℕ) → contains b t ≡ true → take (indexOf b t) t ++ b ∷ drop (suc (indexOf b t)) t ≡ t
+unfolding contains indexOf
+around b [] h = let z : _≡_ {A = ℕ} 0 1 = cc in absurd (omega arith)
+around b (x ∷ t) h = go (eqb x b) refl h (around b t)
+  where
+    go : (p : Bool) → eqb x b ≡ p → (p || contains b t) ≡ true → (contains b t ≡ true → take (indexOf b t) t ++ b ∷ drop (suc (indexOf b t)) t ≡ t)
+        → take (cond p 0 (suc (indexOf b t))) (x ∷ t) ++ b ∷ drop (suc (cond p 0 (suc (indexOf b t)))) (x ∷ t) ≡ x ∷ t
+    go true q k ih = ap (λ (y : ℕ). y ∷ t) (sym (eqb-true x b q))
+    go false q k ih = ap (λ r. x ∷ r) (ih k)

@@ -27,11 +27,11 @@ use Rattle.address.specs.Addresses.{family, width, number, IsAddress}
 use Rattle.address.specs.Answers.{refusalNumber, gives, refuses, noAddress, readingAnswer}
 use Rattle.address.specs.Blocks.{numbered}
 use Rattle.address.proofs.AddressLaws.{width-follows}
-use Rattle.address.proofs.Claims.{gives-one, address-below}
+use Rattle.address.proofs.Claims.{address-below}
 use Rattle.digits.specs.Numerals.{numeral}
 use Rattle.text.specs.Strict.{strictOf, strictAnswer}
 use Rattle.text.specs.Inner.{asReading}
-use Rattle.text.proofs.StrictLaws.{strict-long, strict-read}
+use Rattle.text.proofs.StrictLaws.{strict-long, strict-read, strict-gives}
 use Rattle.text.proofs.MeaningLaws.{strict-address}
 use Rattle.blocks.specs.BlockText.{blockText}
 use Rattle.ranges.specs.Ranges.{blocksOf}
@@ -104,19 +104,8 @@ judged t = elim (decLe (length t) 64) [
     go none e = bad Malformed e
     go (some a) e = good a e
 
--- what is read has a meaning, and is no longer than a text may be
-pub strict-gives : (t : List ℕ) (a : Address) → strictAnswer 0 t ≡ gives a → (length t ≤ 64) × (strictOf 0 t ≡ some a)
-strict-gives t a e = elim (decLe (length t) 64) [
-  | yes h ↦ (h, go (strictOf 0 t) refl (strict-read 0 t refl h ∙ e))
-  | no n ↦ let z : _≡_ {A = ℕ} 1 0 = ap (λ r. r .number) (strict-long 0 t refl (omega arith) ∙ e) in absurd (omega arith)
-]
-  where
-    go : (o : Option Address) → strictOf 0 t ≡ o → readingAnswer (asReading o) ≡ gives a → strictOf 0 t ≡ some a
-    go none p q = let z : _≡_ {A = ℕ} 2 0 = ap (λ r. r .number) q in absurd (omega arith)
-    go (some b) p q = p ∙ ap some (gives-one q)
-
 pub given-address : (t : List ℕ) (a : Address) → strictAnswer 0 t ≡ gives a → IsAddress a
-given-address t a e = strict-address 0 t a (strict-gives t a e .1)
+given-address t a e = strict-address 0 t a (strict-gives 0 t refl a e .1)
 
 -- ---- block values of one family
 

@@ -1,80 +1,37 @@
 -- The lines of an answer, read again as block texts. Assumes nothing.
 use mathlib.Core.Path.{_≡_, refl, sym, ap, ap₂, subst, _∙_}
 use mathlib.Core.Logic.{_⊎_, inl, inr}
-use mathlib.Core.Bool.{Bool, true, false}
 use mathlib.Core.List.{List, [], _∷_, _++_, map}
-use mathlib.Core.Option.{Option, some, none, Option·getD}
 use Prim.Native.Nat.{ℕ, suc}
 use native.Mathlib.Omega.{arith}
-use lib.Dec.{eqb, ltb, lit≤}
 use lib.ListN.{length, length-append}
 use Rattle.notation.specs.Ascii.{ascii}
 use Rattle.notation.specs.Pieces.{contains, Lacks}
-use Rattle.notation.proofs.SeparatedLaws.{lacks-append, seam}
+use Rattle.notation.proofs.SeparatedLaws.{lacks-append}
 use Rattle.cover.specs.Blocks as cover
 use Rattle.address.specs.declared.Address.{Address}
 use Rattle.address.specs.declared.Block.{Block}
 use Rattle.address.specs.declared.Refusal.{Refusal}
 use Rattle.address.specs.declared.Refusal.the-variants.{TextTooLong, Malformed, FirstAboveLast, WrongFamily}
 use Rattle.address.specs.Addresses.{family, width, number}
-use Rattle.address.specs.Answers.{precedence, gives, noBlock, readAnswer}
-use Rattle.address.specs.Blocks.{numbered, blockReasons}
+use Rattle.address.specs.Answers.{gives}
+use Rattle.address.specs.Blocks.{numbered}
 use Rattle.address.proofs.AddressLaws.{width-follows}
-use Rattle.digits.specs.Numerals.{digitOf, partOf}
-use Rattle.digits.proofs.NumeralLaws.{no-digit, part-digits}
-use Rattle.text.specs.Strict.{strictOf, strictAnswer}
+use Rattle.digits.specs.Numerals.{digitOf}
+use Rattle.text.specs.Strict.{strictAnswer}
+use Rattle.text.proofs.StrictLaws.{strict-gives}
 use Rattle.text.proofs.ByteLaws.{strict-lacks}
-use Rattle.blocks.specs.BlockText.{withLength, blockOf, blockText, blockTextAnswer}
+use Rattle.blocks.specs.BlockText.{blockText, blockTextAnswer}
+use Rattle.blocks.proofs.BlockTextLaws.{read-lacks}
 use Rattle.blocks.proofs.Claims.{read-back-answer}
 use Rattle.ranges.specs.Ranges.{blocksOf}
 use Rattle.range_text.specs.RangeText.{lineText}
 use Rattle.range_text.specs.LineForm.{space, newline, Free, AllFree, ended, refusedText, OfFamily, TwoTexts, Line, too-long, no-space, more-spaces, first-refused, second-refused, two-families, first-above-last, range, RangeLine, FewestLines}
-use Rattle.range_text.proofs.LineFormLaws.{free-lacks, lacks-free, first-byte, strict-gives, values, values-numbered, values-family, range-fewest, line-answers}
+use Rattle.range_text.proofs.LineFormLaws.{lacks-free, values, values-numbered, values-family, range-fewest, line-answers}
 
--- ---- a text that is read as a block holds hex digits, dots, colons and slashes alone
+-- ---- the line of a refusal
 
--- what is read has a meaning
-block-meant : (t : List ℕ) (b : Block) → blockTextAnswer t ≡ gives b → (c : Block) × (blockOf t ≡ some c)
-unfolding blockTextAnswer readAnswer
-block-meant t b e = go (blockOf t) (ltb 64 (length t)) (ap (λ r. r .number) e)
-  where
-    go : (o : Option Block) (l : Bool) → readAnswer precedence noBlock ((1, l) ∷ blockReasons (Option·getD o noBlock)) o .number ≡ 0 → (c : Block) × (o ≡ some c)
-    go none true h = let z : _≡_ {A = ℕ} 1 0 = h in absurd (omega arith)
-    go none false h = let z : _≡_ {A = ℕ} 2 0 = h in absurd (omega arith)
-    go (some c) l h = (c, refl)
-
--- the two parts of what has a length
-parts : (o : Option Address) (n : Option ℕ) (b : Block) → withLength o n ≡ some b → ((a : Address) × (o ≡ some a)) × ((k : ℕ) × (n ≡ some k))
-parts none n b e = let z : _≡_ {A = ℕ} 0 1 = cc in absurd (omega arith)
-parts (some a) none b e = let z : _≡_ {A = ℕ} 0 1 = cc in absurd (omega arith)
-parts (some a) (some k) b e = ((a, refl), (k, refl))
-
-no-meaning : {A : Type 0} (t : List ℕ) → Lacks 47 t → (b : Block) → blockOf t ≡ some b → A
-unfolding blockOf
-no-meaning t l b e = let n : none ≡ some b = rw l at e in let z : _≡_ {A = ℕ} 0 1 = cc in absurd (omega arith)
-
-slash-meaning : (s u : List ℕ) → Lacks 47 s → blockOf (s ++ 47 ∷ u) ≡ withLength (strictOf 0 s) (partOf 999 u)
-unfolding blockOf
-slash-meaning s u l = let w = seam 47 s u l in rw (w .0, w .1, w .2)
-
-module _ (c : ℕ) (digit : digitOf c ≡ 16) (dot : eqb 46 c ≡ false) (colon : eqb 58 c ≡ false) (slash : eqb 47 c ≡ false) where
-  block-lacks : (t : List ℕ) (b : Block) → blockOf t ≡ some b → Lacks c t
-  unfolding contains
-  block-lacks t b e = elim (first-byte 47 t) [
-    | inl f ↦ no-meaning t (free-lacks f) b e
-    | inr p ↦
-        let s = p .0 in
-        let u = p .1 in
-        let q = parts (strictOf 0 s) (partOf 999 u) b (sym (slash-meaning s u (free-lacks (p .3))) ∙ ap blockOf (sym (p .2)) ∙ e) in
-        let left = strict-lacks c digit dot colon 0 s (q .0 .0) (q .0 .1) in
-        let right = no-digit 10 c u (lit≤ tt) digit (part-digits 999 u (q .1 .0) (q .1 .1) .all) in
-        subst (Lacks c) (sym (p .2)) (lacks-append c s (47 ∷ u) left (rw slash right))
-  ]
-
-  pub read-lacks : (t : List ℕ) (b : Block) → blockTextAnswer t ≡ gives b → Lacks c t
-  read-lacks t b e = let m = block-meant t b e in block-lacks t (m .0) (m .1)
-
--- so a refusal's line, which holds a space, is not read
+-- it holds a space, so that it is not read as a block
 refused-spaced : (e : Refusal) → Lacks 32 (refusedText e) → ⊥
 unfolding contains ascii
 refused-spaced e h = let z : _≡_ {A = ℕ} 0 1 = cc in omega arith
@@ -105,7 +62,7 @@ texts-count (b ∷ bs) = ap suc (texts-count bs)
 
 spaceless : (t : List ℕ) (c : Address) → strictAnswer 0 t ≡ gives c → Free space t
 unfolding digitOf
-spaceless t c e = lacks-free space t (strict-lacks 32 refl refl refl 0 t c (strict-gives t c e .1))
+spaceless t c e = lacks-free space t (strict-lacks 32 refl refl refl 0 t c (strict-gives 0 t refl c e .1))
 
 module _ {line : List ℕ} (r : RangeLine line) where
   two-addresses : TwoTexts line (r .before) (r .behind)
@@ -116,8 +73,8 @@ module _ {line : List ℕ} (r : RangeLine line) where
           arith,
           ap length (r .is),
           length-append (r .before) (space ∷ r .behind),
-          strict-gives (r .before) (r .first) (r .first-read) .0,
-          strict-gives (r .behind) (r .last) (r .last-read) .0,
+          strict-gives 0 (r .before) refl (r .first) (r .first-read) .0,
+          strict-gives 0 (r .behind) refl (r .last) (r .last-read) .0,
         );
         before = spaceless (r .before) (r .first) (r .first-read);
         behind = spaceless (r .behind) (r .last) (r .last-read);
@@ -151,8 +108,8 @@ module _ {line : List ℕ} (r : RangeLine line) where
       subst (Free newline) (sym (r .is)) (
       lacks-free newline (r .before ++ space ∷ r .behind) (
       lacks-append 10 (r .before) (space ∷ r .behind)
-      (strict-lacks 10 refl refl refl 0 (r .before) (r .first) (strict-gives (r .before) (r .first) (r .first-read) .1))
-      (strict-lacks 10 refl refl refl 0 (r .behind) (r .last) (strict-gives (r .behind) (r .last) (r .last-read) .1))
+      (strict-lacks 10 refl refl refl 0 (r .before) (r .first) (strict-gives 0 (r .before) refl (r .first) (r .first-read) .1))
+      (strict-lacks 10 refl refl refl 0 (r .behind) (r .last) (strict-gives 0 (r .behind) refl (r .last) (r .last-read) .1))
       )
       )
 

@@ -1,17 +1,17 @@
 -- Which bytes a strict text holds: hex digits, dots and colons. Assumes nothing.
 use mathlib.Core.Path.{_≡_, refl, subst}
-use mathlib.Core.Bool.{Bool, true, false, cond, _&&_}
+use mathlib.Core.Bool.{Bool, true, false, cond}
 use mathlib.Core.List.{List, [], _∷_}
 use mathlib.Core.Option.{Option, some, none, Option·map}
-use Prim.Native.Nat.{ℕ, zero, suc, _+_, _<_}
-use native.Mathlib.Omega.{arith}
-use borrow.Author.Tests.{eqb-true, ltb-true}
+use Prim.Native.Nat.{ℕ, _+_, _<_}
+use borrow.Author.Tests.{ltb-true}
 use lib.Dec.{eqb, ltb, lit≤}
 use lib.ListN.{length, take, drop}
 use Rattle.notation.specs.BigEndian.{digitsOf}
 use Rattle.notation.specs.Pieces.{contains, splitOn, Lacks, Each}
 use Rattle.notation.specs.Options.{joined, single, orElse}
-use Rattle.notation.proofs.SeparatedLaws.{lacks-cons, lacks-split}
+use Rattle.notation.proofs.OptionLaws.{impossible}
+use Rattle.notation.proofs.SeparatedLaws.{lacks-append, lacks-split}
 use Rattle.address.specs.declared.Address.{Address}
 use Rattle.address.specs.declared.Address.the-variants.{V4}
 use Rattle.address_groups.specs.Groups.{groupsAddress}
@@ -20,10 +20,8 @@ use Rattle.digits.proofs.NumeralLaws.{no-digit, group-digits}
 use Rattle.ipv4_text.specs.Dotted.{dottedOf}
 use Rattle.ipv4_text.proofs.DottedLaws.{dotted-lacks}
 use Rattle.ipv6_text.specs.EightGroups.{tailOf, piecesOf, sideOf, gapOf, filled, eight, eightOf}
+use Rattle.ipv6_text.proofs.GapLaws.{gap-text}
 use Rattle.text.specs.Strict.{strictOf}
-
-nothing : {A : Type 0} {a : A} {P : Type 0} → none ≡ some a → P
-nothing e = let z : _≡_ {A = ℕ} 0 1 = cc in absurd (omega arith)
 
 -- a byte that is no hex digit, no dot and no colon
 module _ (b : ℕ) (digit : digitOf b ≡ 16) (dot : eqb 46 b ≡ false) (colon : eqb 58 b ≡ false) where
@@ -35,7 +33,7 @@ module _ (b : ℕ) (digit : digitOf b ≡ 16) (dot : eqb 46 b ≡ false) (colon 
   tail-lacks p gs e = go (dottedOf p) refl e
     where
       go : (o : Option ℕ) → dottedOf p ≡ o → Option·map (digitsOf 65536 2) o ≡ some gs → Lacks b p
-      go none q k = nothing k
+      go none q k = impossible k
       go (some v) q k = dotted-lacks b digit dot p v q
 
   last-lacks : (dotted : Bool) (p gs : List ℕ) → orElse (single (groupOf p)) (cond dotted (tailOf p) none) ≡ some gs → Lacks b p
@@ -44,7 +42,7 @@ module _ (b : ℕ) (digit : digitOf b ≡ 16) (dot : eqb 46 b ≡ false) (colon 
       go : (o : Option ℕ) → groupOf p ≡ o → (d : Bool) → orElse (single o) (cond d (tailOf p) none) ≡ some gs → Lacks b p
       go (some x) q d k = group-lacks p x q
       go none q true k = tail-lacks p gs k
-      go none q false k = nothing k
+      go none q false k = impossible k
 
   pieces-lack : (dotted : Bool) (ps : List (List ℕ)) (gs : List ℕ) → piecesOf dotted ps ≡ some gs → Each (Lacks b) ps
   unfolding piecesOf
@@ -54,8 +52,8 @@ module _ (b : ℕ) (digit : digitOf b ≡ 16) (dot : eqb 46 b ≡ false) (colon 
     where
       go : (o : Option ℕ) → groupOf p ≡ o → (os : Option (List ℕ)) → piecesOf dotted (q ∷ ps) ≡ os → joined (single o) os ≡ some gs
           → ((hs : List ℕ) → piecesOf dotted (q ∷ ps) ≡ some hs → Each (Lacks b) (q ∷ ps)) → Lacks b p × Each (Lacks b) (q ∷ ps)
-      go none f os r k ih = nothing k
-      go (some x) f none r k ih = nothing k
+      go none f os r k ih = impossible k
+      go (some x) f none r k ih = impossible k
       go (some x) f (some hs) r k ih = (group-lacks p x f, ih hs r)
 
   side-lacks : (dotted : Bool) (t gs : List ℕ) → sideOf dotted t ≡ some gs → Lacks b t
@@ -63,30 +61,10 @@ module _ (b : ℕ) (digit : digitOf b ≡ 16) (dot : eqb 46 b ≡ false) (colon 
   side-lacks dotted [] gs e = refl
   side-lacks dotted (c ∷ t) gs e = lacks-split 58 b colon (c ∷ t) (pieces-lack dotted (splitOn 58 (c ∷ t)) gs e)
 
-  -- a text that lacks the byte on both sides of `::`, which comes later than its first byte
-  step-lacks : (x : ℕ) (s : List ℕ) (g : ℕ) → Lacks b (take (suc g) (x ∷ s)) → Lacks b (drop (suc g + 2) (x ∷ s))
-      → (Lacks b (take g s) → Lacks b (drop (g + 2) s) → Lacks b s) → Lacks b (x ∷ s)
-  unfolding contains
-  step-lacks x s g u v ih =
-      let l = lacks-cons b x (take g s) u in
-      let e : suc g + 2 ≡ suc (g + 2) = omega arith in
-      let w : Lacks b (drop (g + 2) s) = subst (λ (n : ℕ). Lacks b (drop n (x ∷ s))) e v in
-      rw (l .0) (ih (l .1) w)
-
-  -- and one that lacks it there, wherever `::` is
+  -- a text that lacks the byte on both sides of `::`
   gap-lacks : (t : List ℕ) → gapOf t < length t → Lacks b (take (gapOf t) t) → Lacks b (drop (gapOf t + 2) t) → Lacks b t
-  unfolding gapOf contains
-  gap-lacks [] h l r = absurd (omega arith)
-  gap-lacks (x ∷ []) h l r = absurd (omega arith)
-  gap-lacks (x ∷ y ∷ t) h l r = go (eqb x 58) refl (eqb y 58) refl h l r (gap-lacks (y ∷ t))
-    where
-      go : (p : Bool) → eqb x 58 ≡ p → (q : Bool) → eqb y 58 ≡ q → let g = cond (p && q) zero (suc (gapOf (y ∷ t))) in
-          g < suc (suc (length t)) → Lacks b (take g (x ∷ y ∷ t)) → Lacks b (drop (g + 2) (x ∷ y ∷ t))
-          → (gapOf (y ∷ t) < suc (length t) → Lacks b (take (gapOf (y ∷ t)) (y ∷ t)) → Lacks b (drop (gapOf (y ∷ t) + 2) (y ∷ t)) → Lacks b (y ∷ t))
-          → Lacks b (x ∷ y ∷ t)
-      go true e true f k u v ih = rw (eqb-true x 58 e, eqb-true y 58 f, colon) v
-      go true e false f k u v ih = step-lacks x (y ∷ t) (gapOf (y ∷ t)) u v (ih (omega arith))
-      go false e q f k u v ih = step-lacks x (y ∷ t) (gapOf (y ∷ t)) u v (ih (omega arith))
+  unfolding contains
+  gap-lacks t h l r = subst (Lacks b) (gap-text t h) (lacks-append b (take (gapOf t) t) (58 ∷ 58 ∷ drop (gapOf t + 2) t) l (rw colon r))
 
   eight-lacks : (t gs : List ℕ) → eightOf t ≡ some gs → Lacks b t
   unfolding eightOf
@@ -97,11 +75,11 @@ module _ (b : ℕ) (digit : digitOf b ≡ 16) (dot : eqb 46 b ≡ false) (colon 
           → (r : Option (List ℕ)) → sideOf true (drop (gapOf t + 2) t) ≡ r
           → (s : Option (List ℕ)) → sideOf true t ≡ s
           → cond c (filled l r) (eight s) ≡ some gs → Lacks b t
-      go true c none p r q s u k = nothing k
-      go true c (some xs) p none q s u k = nothing k
+      go true c none p r q s u k = impossible k
+      go true c (some xs) p none q s u k = impossible k
       go true c (some xs) p (some ys) q s u k =
           gap-lacks t (ltb-true (gapOf t) (length t) c) (side-lacks false (take (gapOf t) t) xs p) (side-lacks true (drop (gapOf t + 2) t) ys q)
-      go false c l p r q none u k = nothing k
+      go false c l p r q none u k = impossible k
       go false c l p r q (some xs) u k = side-lacks true t xs u
 
   pub strict-lacks : (family : ℕ) (t : List ℕ) (a : Address) → strictOf family t ≡ some a → Lacks b t
@@ -109,8 +87,8 @@ module _ (b : ℕ) (digit : digitOf b ≡ 16) (dot : eqb 46 b ≡ false) (colon 
   strict-lacks family t a e = go (eqb family 6) (eqb family 4) (dottedOf t) refl (eightOf t) refl e
     where
       six : (p : Bool) (o : Option (List ℕ)) → eightOf t ≡ o → cond p none (Option·map groupsAddress o) ≡ some a → Lacks b t
-      six true o q k = nothing k
-      six false none q k = nothing k
+      six true o q k = impossible k
+      six false none q k = impossible k
       six false (some gs) q k = eight-lacks t gs q
 
       go : (p q : Bool) (d : Option ℕ) → dottedOf t ≡ d → (o : Option (List ℕ)) → eightOf t ≡ o

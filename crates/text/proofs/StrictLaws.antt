@@ -1,9 +1,10 @@
 -- What reading strict text answers, told by tests. Assumes nothing.
-use mathlib.Core.Path.{_≡_, refl, sym}
+use mathlib.Core.Path.{_≡_, refl, sym, ap, _∙_}
 use mathlib.Core.Bool.{true, false, not}
 use mathlib.Core.List.{List, [], _∷_}
 use mathlib.Core.Option.{Option, some, none, Option·map}
 use Prim.Native.Nat.{ℕ, _≤_, _<_}
+use native.Mathlib.Decide.{decLe}
 use native.Mathlib.Omega.{arith}
 use borrow.Author.Tests.{lt-ltb, le-ltb, ne-eqb}
 use lib.ListN.{length}
@@ -13,7 +14,7 @@ use Rattle.address.specs.declared.Address.the-variants.{V4}
 use Rattle.address.specs.declared.Reading.the-variants.{Read, Refused}
 use Rattle.address.specs.declared.Refusal.{Refusal}
 use Rattle.address.specs.declared.Refusal.the-variants.{TextTooLong, WrongFamily}
-use Rattle.address.specs.Answers.{precedence, refuses, noAddress, readingAnswer, readAnswer}
+use Rattle.address.specs.Answers.{precedence, gives, refuses, noAddress, readingAnswer, readAnswer}
 use Rattle.address_groups.specs.Groups.{groupsAddress}
 use Rattle.ipv4_text.specs.Dotted.{dottedOf}
 use Rattle.ipv6_text.specs.EightGroups.{eightOf}
@@ -62,3 +63,18 @@ module _ (f : ℕ) (t : List ℕ) where
         go : (o : Option Address) → readingAnswer (asReading o) ≡ readAnswer precedence noAddress ((9, not true) ∷ (1, false) ∷ []) o
         go none = refl
         go (some a) = refl
+
+    -- what is read has a meaning, and is no longer than a text may be
+    pub strict-gives : (a : Address) → strictAnswer f t ≡ gives a → (length t ≤ 64) × (strictOf f t ≡ some a)
+    strict-gives a e = elim (decLe (length t) 64) [
+      | yes h ↦ (h, go (strictOf f t) (strict-read h ∙ e))
+      | no n ↦ let z : _≡_ {A = ℕ} 1 0 = ap (λ r. r .number) (strict-long (omega arith) ∙ e) in absurd (omega arith)
+    ]
+      where
+        go : (o : Option Address) → readingAnswer (asReading o) ≡ gives a → o ≡ some a
+        go none q = let z : _≡_ {A = ℕ} 2 0 = ap (λ r. r .number) q in absurd (omega arith)
+        go (some b) q = ap some (ap (λ r. r .fields) q)
+
+    -- and what has a meaning, and is no longer, is read
+    pub gives-strict : (a : Address) → length t ≤ 64 → strictOf f t ≡ some a → strictAnswer f t ≡ gives a
+    gives-strict a l e = sym (strict-read l) ∙ ap (λ o. readingAnswer (asReading o)) e
