@@ -15,6 +15,7 @@ use lib.Seq.{take-all}
 use Rattle.notation.specs.BigEndian.{AllBelow, digitsOf, numberFrom, numberOf}
 use Rattle.notation.specs.Pieces.{Lacks, Each, indexOf, splitOn, separated}
 use Rattle.notation.specs.Options.{joined, every}
+use Rattle.notation.proofs.OptionLaws.{impossible}
 use Rattle.notation.proofs.DigitLaws.{digits-below, digits-length, digits-number, number-below}
 use Rattle.notation.proofs.PieceLaws.{split-found, split-last, split-first}
 use Rattle.notation.proofs.SeparatedLaws.{split-separated, lacks-split}
@@ -158,7 +159,7 @@ parts-are t xs e = go (leb (length (splitOn 46 t)) 4) refl e
                 small = reads-below 256 part-octet r;
               };
         }
-    go false p q = let z : _≡_ {A = ℕ} 0 1 = cc in absurd (omega arith)
+    go false p q = impossible q
 
 pub parts-exactly : (t xs : List ℕ) → (partsOf t ≡ some xs) ↔ ((every (partOf 255) (splitOn 46 t) ≡ some xs) × (1 ≤ length xs) × (length xs ≤ 4))
 unfolding partsOf
@@ -242,9 +243,9 @@ unfolding dottedOf
 dotted-lacks b n o t v e = lacks-split 46 b o t (go (eqb (length (splitOn 46 t)) 4) (every (partOf 255) (splitOn 46 t)) refl e)
   where
     go : (c : Bool) (os : Option (List ℕ)) → every (partOf 255) (splitOn 46 t) ≡ os → cond c (Option·map (numberOf 256) os) none ≡ some v → Each (Lacks b) (splitOn 46 t)
-    go true none q k = let z : _≡_ {A = ℕ} 0 1 = cc in absurd (omega arith)
+    go true none q k = impossible k
     go true (some xs) q k = reads-each (λ p x r. no-digit 10 b p (lit≤ tt) n (part-digits 255 p x r .all)) (every-reads (partOf 255) (splitOn 46 t) xs q)
-    go false os q k = let z : _≡_ {A = ℕ} 0 1 = cc in absurd (omega arith)
+    go false os q k = impossible k
 
 -- four octets write a number of 32 bits
 pub dotted-below : (t : List ℕ) (v : ℕ) → dottedOf t ≡ some v → v < 2 ^ 32

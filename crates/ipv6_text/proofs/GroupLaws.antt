@@ -12,6 +12,7 @@ use lib.Seq.{take-all, take-suc-set}
 use Rattle.notation.specs.BigEndian.{digitsOf}
 use Rattle.notation.specs.Pieces.{indexOf, splitOn}
 use Rattle.notation.specs.Options.{joined, single, orElse}
+use Rattle.notation.proofs.OptionLaws.{impossible}
 use Rattle.notation.proofs.PieceLaws.{split-found, split-last, split-first, index-contains}
 use Rattle.digits.specs.declared.read.Leading.the-variants.{Number}
 use Rattle.digits.specs.Numerals.{digitOf, groupOf, digitCount, leading}
@@ -56,13 +57,13 @@ pieces-some d p [] ys e = first d (groupOf p) (dottedOf p) e
     first : (d : Bool) (o v : Option ℕ) → orElse (single o) (cond d (Option·map (digitsOf 65536 2) v) none) ≡ some ys → 0 < length ys
     first d (some x) v e = let k : x ∷ [] ≡ ys = cc in rw (← k) (omega arith)
     first true none (some v) e = let k : digitsOf 65536 2 v ≡ ys = cc in rw (← k) (omega arith)
-    first true none none e = let z : _≡_ {A = ℕ} 0 1 = cc in absurd (omega arith)
-    first false none v e = let z : _≡_ {A = ℕ} 0 1 = cc in absurd (omega arith)
+    first true none none e = impossible e
+    first false none v e = impossible e
 pieces-some d p (q ∷ qs) ys e = more (groupOf p) (piecesOf d (q ∷ qs)) e
   where
     more : (o : Option ℕ) (b : Option (List ℕ)) → joined (single o) b ≡ some ys → 0 < length ys
-    more none b e = let z : _≡_ {A = ℕ} 0 1 = cc in absurd (omega arith)
-    more (some x) none e = let z : _≡_ {A = ℕ} 0 1 = cc in absurd (omega arith)
+    more none b e = impossible e
+    more (some x) none e = impossible e
     more (some x) (some zs) e = let k : x ∷ zs ≡ ys = cc in rw (← k) (omega arith)
 
 pub split-some : (d : Bool) (t ys : List ℕ) → piecesOf d (splitOn 58 t) ≡ some ys → 0 < length ys

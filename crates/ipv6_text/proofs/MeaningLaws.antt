@@ -11,6 +11,7 @@ use lib.ListN.{length, take, drop, replicate, length-append, length-replicate}
 use Rattle.notation.specs.BigEndian.{AllBelow, digitsOf}
 use Rattle.notation.specs.Pieces.{splitOn}
 use Rattle.notation.specs.Options.{joined, single, orElse}
+use Rattle.notation.proofs.OptionLaws.{impossible}
 use Rattle.notation.proofs.DigitLaws.{below-append, zeros-below, digits-below}
 use Rattle.digits.specs.Numerals.{groupOf}
 use Rattle.digits.proofs.NumeralLaws.{group-digits}
@@ -64,8 +65,8 @@ pub record EightGroups (gs : List ℕ) : Type 0 where
   pub small : AllBelow 65536 gs
 
 filled-eight : (a b : Option (List ℕ)) (gs : List ℕ) → AllGroups a → AllGroups b → filled a b ≡ some gs → EightGroups gs
-filled-eight none b gs g h e = let z : _≡_ {A = ℕ} 0 1 = cc in absurd (omega arith)
-filled-eight (some xs) none gs g h e = let z : _≡_ {A = ℕ} 0 1 = cc in absurd (omega arith)
+filled-eight none b gs g h e = impossible e
+filled-eight (some xs) none gs g h e = impossible e
 filled-eight (some xs) (some ys) gs g h e = go (leb (length xs + length ys) 7) refl e
   where
     n : ℕ
@@ -79,15 +80,15 @@ filled-eight (some xs) (some ys) gs g h e = go (leb (length xs + length ys) 7) r
           count = omega (arith, length-append xs (replicate n 0 ++ ys), length-append (replicate n 0) ys, length-replicate {A = ℕ} n 0);
           small = below-append 65536 xs (replicate n 0 ++ ys) g (below-append 65536 (replicate n 0) ys (zeros-below 65536 n (lit< tt)) h);
         })
-    go false l k = let z : _≡_ {A = ℕ} 0 1 = cc in absurd (omega arith)
+    go false l k = impossible k
 
 eight-eight : (a : Option (List ℕ)) (gs : List ℕ) → AllGroups a → eight a ≡ some gs → EightGroups gs
-eight-eight none gs g e = let z : _≡_ {A = ℕ} 0 1 = cc in absurd (omega arith)
+eight-eight none gs g e = impossible e
 eight-eight (some xs) gs g e = go (eqb (length xs) 8) refl e
   where
     go : (b : Bool) → eqb (length xs) 8 ≡ b → cond b (some xs) none ≡ some gs → EightGroups gs
     go true l k = let is : xs ≡ gs = cc in subst EightGroups is (record { count = eqb-true (length xs) 8 l; small = g })
-    go false l k = let z : _≡_ {A = ℕ} 0 1 = cc in absurd (omega arith)
+    go false l k = impossible k
 
 pub eight-groups : (t gs : List ℕ) → eightOf t ≡ some gs → EightGroups gs
 unfolding eightOf

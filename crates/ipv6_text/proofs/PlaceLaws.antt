@@ -12,6 +12,7 @@ use lib.ListN.{length, take, drop, getD, set, replicate, length-append, length-t
 use lib.Seq.{drop-cons, take-all, take-take, take-at, drop-at, length-take-le, getD-take, getD-drop, getD-append-add}
 use Rattle.notation.specs.BigEndian.{digitsOf}
 use Rattle.notation.specs.Options.{joined}
+use Rattle.notation.proofs.OptionLaws.{impossible}
 use Rattle.ipv4_text.specs.Dotted.{dottedOf}
 use Rattle.ipv6_text.specs.declared.Layout.{Layout}
 use Rattle.ipv6_text.specs.Inner.{upTo8, held, HoldsGroups, expanded, LaidOut}
@@ -25,7 +26,7 @@ unfolding tailOf digitsOf
 tail-length t ys = go (dottedOf t)
   where
     go : (o : Option ℕ) → Option·map (digitsOf 65536 2) o ≡ some ys → length ys ≡ 2
-    go none q = let z : _≡_ {A = ℕ} 0 1 = cc in absurd (omega arith)
+    go none q = impossible q
     go (some v) q = let k : digitsOf 65536 2 v ≡ ys = cc in ap length (sym k)
 
 up-to : (xs : List ℕ) → length xs ≤ 8 → upTo8 (some xs) ≡ some xs
@@ -47,7 +48,7 @@ module _ (gs ys : List ℕ) (n : ℕ) (h : HoldsGroups gs n (some ys)) where
   told : (a b : Bool) → leb n 8 ≡ a → leb (length ys) 8 ≡ b → cond a (some (take n gs)) none ≡ cond b (some ys) none → (n ≤ 8 → take n gs ≡ ys) × (8 < n → 8 < length ys)
   told true true p q e = (λ k. cc, λ k. absurd (omega (arith, leb-true n 8 p)))
   told true false p q e = let z : _≡_ {A = ℕ} 0 1 = cc in absurd (omega arith)
-  told false true p q e = let z : _≡_ {A = ℕ} 0 1 = cc in absurd (omega arith)
+  told false true p q e = impossible e
   told false false p q e = (λ k. absurd (omega (arith, leb-false n 8 p)), λ k. leb-false (length ys) 8 q)
 
   pub holds-some : n ≤ 8 → take n gs ≡ ys

@@ -15,6 +15,7 @@ use lib.Seq.{length-take-le}
 use Rattle.notation.specs.BigEndian.{AllBelow, numberFrom, numberOf}
 use Rattle.notation.specs.Pieces.{indexOf}
 use Rattle.notation.specs.Ascii.{within}
+use Rattle.notation.proofs.OptionLaws.{impossible}
 use Rattle.notation.proofs.DigitLaws.{number-append, number-lt, bits-power, zeros-number}
 use Rattle.notation.proofs.PieceLaws.{index-le}
 use Rattle.digits.specs.declared.read.Leading.the-variants.{Number, Nothing}
@@ -132,7 +133,7 @@ module _ (t : List ℕ) where
             most = omega (arith, length-map t digitOf, d .1);
             small = halves-below (map digitOf t) (digit-values 16 t (d .0 .all));
           })
-      go false e k = let z : _≡_ {A = ℕ} 0 1 = cc in absurd (omega arith)
+      go false e k = impossible k
 
   -- eight digits write no more than 32 bits
   hex-none : boundedNumber 16 4294967295 t ≡ none → hexBytes t ≡ none

@@ -9,6 +9,7 @@ use lib.ListN.{length}
 use Rattle.notation.specs.BigEndian.{AllBelow}
 use Rattle.notation.specs.Pieces.{Each}
 use Rattle.notation.specs.Options.{joined, single, every}
+use Rattle.notation.proofs.OptionLaws.{impossible}
 
 -- f reads the pieces as the numbers
 pub data Reads (f : List ℕ → Option ℕ) : List (List ℕ) → List ℕ → Type 0 where
@@ -23,8 +24,8 @@ every-reads f (p ∷ ps) xs e = go (f p) (every f ps) xs refl refl e (every-read
   where
     go : (o : Option ℕ) (os : Option (List ℕ)) (xs : List ℕ) → f p ≡ o → every f ps ≡ os → joined (single o) os ≡ some xs
         → ((ys : List ℕ) → every f ps ≡ some ys → Reads f ps ys) → Reads f (p ∷ ps) xs
-    go none os xs q r k ih = let z : _≡_ {A = ℕ} 0 1 = cc in absurd (omega arith)
-    go (some x) none xs q r k ih = let z : _≡_ {A = ℕ} 0 1 = cc in absurd (omega arith)
+    go none os xs q r k ih = impossible k
+    go (some x) none xs q r k ih = impossible k
     go (some x) (some ys) xs q r k ih = let s : x ∷ ys ≡ xs = cc in rw (← s) (more q (ih ys r))
 
 module _ {f : List ℕ → Option ℕ} where

@@ -4,9 +4,9 @@ use mathlib.Core.Bool.{true, false}
 use mathlib.Core.List.{List}
 use mathlib.Core.Option.{Option, some, none, Option·map}
 use Prim.Native.Nat.{ℕ}
-use native.Mathlib.Omega.{arith}
 use Rattle.notation.specs.Pieces.{contains}
 use Rattle.notation.specs.Options.{orElse}
+use Rattle.notation.proofs.OptionLaws.{impossible}
 use Rattle.address.specs.declared.Address.{Address}
 use Rattle.address.specs.declared.Address.the-variants.{V4}
 use Rattle.address_groups.specs.Groups.{groupsAddress}
@@ -21,7 +21,7 @@ module _ (t : List ℕ) (a : Address) where
   no-colon-4 e = go (dottedOf t) refl e
     where
       go : (o : Option ℕ) → dottedOf t ≡ o → orElse (Option·map V4 o) none ≡ some a → contains 58 t ≡ false
-      go none q k = let z : _≡_ {A = ℕ} 0 1 = cc in absurd (omega arith)
+      go none q k = impossible k
       go (some v) q k = dotted-no-colon t v q
 
   pub colon-6 : strictOf 6 t ≡ some a → contains 58 t ≡ true
@@ -29,5 +29,5 @@ module _ (t : List ℕ) (a : Address) where
   colon-6 e = go (eightOf t) refl e
     where
       go : (o : Option (List ℕ)) → eightOf t ≡ o → Option·map groupsAddress o ≡ some a → contains 58 t ≡ true
-      go none q k = let z : _≡_ {A = ℕ} 0 1 = cc in absurd (omega arith)
+      go none q k = impossible k
       go (some gs) q k = eight-colon t gs q

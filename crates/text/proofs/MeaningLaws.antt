@@ -9,6 +9,7 @@ use lib.Dec.{eqb}
 use lib.ListN.{take, drop, length-drop}
 use lib.Seq.{length-take-le}
 use Rattle.notation.specs.Options.{orElse}
+use Rattle.notation.proofs.OptionLaws.{impossible}
 use Rattle.notation.proofs.DigitLaws.{number-below, below-take, below-drop}
 use Rattle.address.specs.declared.Address.{Address}
 use Rattle.address.specs.declared.Address.the-variants.{V4}
@@ -32,8 +33,8 @@ unfolding strictOf
 strict-address f t a e = go (dottedOf t) (eightOf t) refl refl (eqb f 6) (eqb f 4) e
   where
     six : (o : Option (List ℕ)) → eightOf t ≡ o → (c : Bool) → cond c none (Option·map groupsAddress o) ≡ some a → IsAddress a
-    six o q true k = let z : _≡_ {A = ℕ} 0 1 = cc in absurd (omega arith)
-    six none q false k = let z : _≡_ {A = ℕ} 0 1 = cc in absurd (omega arith)
+    six o q true k = impossible k
+    six none q false k = impossible k
     six (some gs) q false k = let is : groupsAddress gs ≡ a = cc in subst IsAddress is (groups-address gs (eight-groups t gs q))
 
     go : (p : Option ℕ) (o : Option (List ℕ)) → dottedOf t ≡ p → eightOf t ≡ o → (b c : Bool)
