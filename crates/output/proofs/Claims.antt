@@ -26,7 +26,7 @@ module _ {old new : List ℕ} {at next : ℕ} {bytes : List ℕ} (p : Puts old n
   puts-room = laws.puts-room p
 
   -- Two calls in a row put what one call of both texts would have put.
-  pub puts-then : {newer : List ℕ} {end : ℕ} {more : List ℕ} → Puts new newer next end more → Puts old newer at end (bytes ++ more)
+  pub puts-then : {newer : List ℕ} {last : ℕ} {more : List ℕ} → Puts new newer next last more → Puts old newer at last (bytes ++ more)
   puts-then = laws.puts-then p
 
 -- Bytes that have room at the start are what the buffer then begins with, as many as the call answers.
