@@ -40,8 +40,8 @@ dotted-below = laws.dotted-below
 pub dotted-spelling : (ps : List (List ℕ)) (xs : List ℕ) → every (partOf 255) ps ≡ some xs → length xs ≡ 4 → dottedOf (separated 46 ps) ≡ some (numberOf 256 xs)
 dotted-spelling = laws.dotted-spelling
 
--- "A zero byte inside it is a wrong byte. Surrounding blanks are wrong bytes": so is every byte that is neither a hex digit nor a dot.
-pub only-these : (b : ℕ) → digitOf b ≡ 16 → eqb 46 b ≡ false → (t : List ℕ) (v : ℕ) → dottedOf t ≡ some v → contains b t ≡ false
+-- "A zero byte inside it is a wrong byte. Surrounding blanks are wrong bytes": so is every byte but a decimal digit and a dot.
+pub only-these : (b : ℕ) → 10 ≤ digitOf b → eqb 46 b ≡ false → (t : List ℕ) (v : ℕ) → dottedOf t ≡ some v → contains b t ≡ false
 only-these = laws.dotted-lacks
 
 -- ---- written

@@ -23,7 +23,7 @@ use Rattle.notation.proofs.SliceLaws.{to-end}
 use Rattle.notation.proofs.EveryLaws.{every-reads, reads-each, reads-length, reads-below}
 use Rattle.digits.specs.declared.read.Leading.the-variants.{Number, Nothing}
 use Rattle.digits.specs.Numerals.{digitOf, partOf, digitCount, leading, decimal}
-use Rattle.digits.proofs.NumeralLaws.{no-digit, part-digits}
+use Rattle.digits.proofs.NumeralLaws.{not-of-base, part-digits}
 use Rattle.digits.proofs.SeparatedNumeralLaws.{numerals-most}
 use Rattle.digits.proofs.FirstPieceLaws.{part-reads, piece-nothing, piece-last, piece-more, piece-other, leading-says, part-most}
 use Rattle.ipv4_text.specs.declared.Dotted.the-variants.{Value, NotDotted}
@@ -238,13 +238,13 @@ dotted-spelling ps xs e h =
 -- ---- what IPv4 text holds
 
 -- an IPv4 text holds digits and dots
-pub dotted-lacks : (b : ℕ) → digitOf b ≡ 16 → eqb 46 b ≡ false → (t : List ℕ) (v : ℕ) → dottedOf t ≡ some v → Lacks b t
+pub dotted-lacks : (b : ℕ) → 10 ≤ digitOf b → eqb 46 b ≡ false → (t : List ℕ) (v : ℕ) → dottedOf t ≡ some v → Lacks b t
 unfolding dottedOf
 dotted-lacks b n o t v e = lacks-split 46 b o t (go (eqb (length (splitOn 46 t)) 4) (every (partOf 255) (splitOn 46 t)) refl e)
   where
     go : (c : Bool) (os : Option (List ℕ)) → every (partOf 255) (splitOn 46 t) ≡ os → cond c (Option·map (numberOf 256) os) none ≡ some v → Each (Lacks b) (splitOn 46 t)
     go true none q k = impossible k
-    go true (some xs) q k = reads-each (λ p x r. no-digit 10 b p (lit≤ tt) n (part-digits 255 p x r .all)) (every-reads (partOf 255) (splitOn 46 t) xs q)
+    go true (some xs) q k = reads-each (λ p x r. not-of-base 10 b p n (part-digits 255 p x r .all)) (every-reads (partOf 255) (splitOn 46 t) xs q)
     go false os q k = impossible k
 
 -- four octets write a number of 32 bits

@@ -6,6 +6,7 @@ use mathlib.Core.Option.{Option, some, none, Option·map}
 use Prim.Native.Nat.{ℕ, suc, _+_}
 use native.Mathlib.Omega.{arith}
 use borrow.Author.Tests.{le-ltb}
+use lib.Dec.{lit≤}
 use lib.ListN.{length}
 use Rattle.notation.specs.BigEndian.{digitsOf}
 use Rattle.notation.specs.Pieces.{contains, Lacks}
@@ -19,7 +20,7 @@ use Rattle.ipv6_text.proofs.SpellingLaws.{gap-piece}
 
 pub dotted-no-colon : (t : List ℕ) (v : ℕ) → dottedOf t ≡ some v → contains 58 t ≡ false
 unfolding digitOf
-dotted-no-colon = dotted-lacks 58 refl refl
+dotted-no-colon = dotted-lacks 58 (lit≤ tt) refl
 
 pub colon-not-dotted : (t : List ℕ) → contains 58 t ≡ true → dottedOf t ≡ none
 colon-not-dotted t h = go (dottedOf t) refl

@@ -4,6 +4,7 @@ use mathlib.Core.Bool.{Bool, true, false, cond}
 use mathlib.Core.List.{List, [], _∷_}
 use mathlib.Core.Option.{Option, some, none, Option·map}
 use Prim.Native.Nat.{ℕ, _+_, _<_}
+use native.Mathlib.Omega.{arith}
 use borrow.Author.Tests.{ltb-true}
 use lib.Dec.{eqb, ltb, lit≤}
 use lib.ListN.{length, take, drop}
@@ -34,7 +35,7 @@ module _ (b : ℕ) (digit : digitOf b ≡ 16) (dot : eqb 46 b ≡ false) (colon 
     where
       go : (o : Option ℕ) → dottedOf p ≡ o → Option·map (digitsOf 65536 2) o ≡ some gs → Lacks b p
       go none q k = impossible k
-      go (some v) q k = dotted-lacks b digit dot p v q
+      go (some v) q k = dotted-lacks b (omega (arith, digit)) dot p v q
 
   last-lacks : (dotted : Bool) (p gs : List ℕ) → orElse (single (groupOf p)) (cond dotted (tailOf p) none) ≡ some gs → Lacks b p
   last-lacks dotted p gs e = go (groupOf p) refl dotted e
@@ -95,4 +96,4 @@ module _ (b : ℕ) (digit : digitOf b ≡ 16) (dot : eqb 46 b ≡ false) (colon 
           → orElse (cond p none (Option·map V4 d)) (cond q none (Option·map groupsAddress o)) ≡ some a → Lacks b t
       go true q d r o u k = six q o u k
       go false q none r o u k = six q o u k
-      go false q (some v) r o u k = dotted-lacks b digit dot t v r
+      go false q (some v) r o u k = dotted-lacks b (omega (arith, digit)) dot t v r
