@@ -8,7 +8,7 @@ use native.Mathlib.Decide.{decLe, decLt, ℕ-discrete}
 use native.Mathlib.Omega.{arith}
 use borrow.Author.Tests.{eqb-true, ltb-true, eq-eqb, ne-eqb}
 use lib.Arith.{digits-lt}
-use lib.Dec.{eqb, ltb, lit<}
+use lib.Dec.{eqb, ltb}
 use lib.ListN.{length, take, drop, getD, replicate}
 use lib.Pow.{high, low}
 use Rattle.wide.proofs.Aligned.{aligned-nothing}
@@ -60,29 +60,39 @@ number-above-0 = number-pos
 
 -- ---- the order of refusals
 
+-- "Given only when its condition holds": a number holds exactly if it is listed with a condition that does.
+pub holds-exactly : (n : ℕ) (cs : List (ℕ × Bool))
+    → (holds n cs ≡ true) ↔ ((before : List (ℕ × Bool)) × (after : List (ℕ × Bool)) × (cs ≡ before ++ (n, true) ∷ after))
+holds-exactly n cs = (laws.holds-listed n cs, λ p. ap (holds n) (p .2) ∙ laws.listed-holds n (p .0) (p .1))
+
 -- The first condition that holds decides, whatever stands behind it;
 pub first-decides : (before after : List (ℕ × Bool)) (n : ℕ) → map (λ c. c .1) before ≡ replicate (length before) false → firstOf (before ++ (n, true) ∷ after) ≡ n
 unfolding firstOf
 first-decides [] after n h = refl
 first-decides ((m, t) ∷ before) after n h = rw (ap (λ ts. getD ts 0 false) h) (first-decides before after n (ap (drop 1) h))
 
--- and where none holds, nothing is refused.
+-- where none holds, nothing is refused;
 pub none-holds : (conditions : List (ℕ × Bool)) → map (λ c. c .1) conditions ≡ replicate (length conditions) false → firstOf conditions ≡ 0
 unfolding firstOf
 none-holds [] h = refl
 none-holds ((m, t) ∷ conditions) h = rw (ap (λ ts. getD ts 0 false) h) (none-holds conditions (ap (drop 1) h))
 
--- 01's order has every refusal, so that none whose condition holds is passed over.
-pub every-judged : (e : Refusal) → (i : ℕ) × (i < length precedence) × (getD precedence i 0 ≡ refusalNumber e)
-every-judged TextTooLong = (1, lit< tt, refl)
-every-judged Malformed = (2, lit< tt, refl)
-every-judged NoRoom = (8, lit< tt, refl)
-every-judged LengthTooLarge = (3, lit< tt, refl)
-every-judged BitsBeyondLength = (4, lit< tt, refl)
-every-judged NoClass = (5, lit< tt, refl)
-every-judged HostTooLarge = (6, lit< tt, refl)
-every-judged FirstAboveLast = (7, lit< tt, refl)
-every-judged WrongFamily = (0, lit< tt, refl)
+-- and what is refused is listed with a condition that holds.
+pub first-holds : (conditions : List (ℕ × Bool)) → 0 < firstOf conditions → holds (firstOf conditions) conditions ≡ true
+first-holds = laws.first-holds
+
+-- 01's order has every refusal: one whose condition alone holds is given.
+pub every-judged : (e : Refusal) → refusal precedence ((refusalNumber e, true) ∷ []) ≡ refusalNumber e
+unfolding refusal
+every-judged TextTooLong = refl
+every-judged Malformed = refl
+every-judged NoRoom = refl
+every-judged LengthTooLarge = refl
+every-judged BitsBeyondLength = refl
+every-judged NoClass = refl
+every-judged HostTooLarge = refl
+every-judged FirstAboveLast = refl
+every-judged WrongFamily = refl
 
 module _ (reasons : List (ℕ × Bool)) where
   -- A call's refusal is one that holds, whatever the order.
@@ -106,11 +116,18 @@ module _ (reasons : List (ℕ × Bool)) where
       pick true ih = (0, omega arith, refl)
       pick false (j, k, e) = (suc j, omega arith, e)
 
-  -- A writer's refusal is the one that 01's order gives, where 3 is last: "the lent buffer is shorter than the bytes the answer needs".
-  pub room-last : holds 3 reasons ≡ false → (bytes old : List ℕ)
-      → writeRefusal (refusal precedence reasons) bytes old ≡ refusal precedence ((3, ltb (length old) (length bytes)) ∷ reasons)
-  unfolding refusal laws.firstOr laws.positive
-  room-last others bytes old = laws.first-or reasons bytes old (9 ∷ 1 ∷ 2 ∷ 4 ∷ 5 ∷ 6 ∷ 7 ∷ 8 ∷ []) refl (cond (holds 3 reasons) 3 0) (rw others refl)
+  -- A writer's refusal is the one that its order gives with 3 put behind it: "the lent buffer is shorter than the bytes the answer needs".
+  module _ (others : holds 3 reasons ≡ false) (bytes old : List ℕ) where
+    pub room-behind : (order : List ℕ) → ((i : ℕ) → i < length order → (0 < getD order i 0) × ¬ (getD order i 0 ≡ 3))
+        → writeRefusal (refusal order reasons) bytes old ≡ refusal (order ++ 3 ∷ []) ((3, ltb (length old) (length bytes)) ∷ reasons)
+    room-behind = laws.room-behind reasons others bytes old
+
+    -- 01's order is such a one: 3 is last in it.
+    pub room-last : writeRefusal (refusal precedence reasons) bytes old ≡ refusal precedence ((3, ltb (length old) (length bytes)) ∷ reasons)
+    unfolding refusal laws.others
+    room-last =
+        let before3 : List ℕ = 9 ∷ 1 ∷ 2 ∷ 4 ∷ 5 ∷ 6 ∷ 7 ∷ 8 ∷ [] in
+        ap (λ n. writeRefusal n bytes old) (laws.unlisted-last reasons others before3) ∙ laws.room-after reasons others bytes old before3 refl
 
 -- ---- lent buffers
 

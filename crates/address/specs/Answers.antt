@@ -1,5 +1,5 @@
 -- Answers and refusals (01, "Why a call says no"). Assumes nothing.
-use mathlib.Core.Bool.{Bool, true, false, cond}
+use mathlib.Core.Bool.{Bool, true, false, cond, _||_}
 use mathlib.Core.List.{List, [], _∷_, _++_}
 use mathlib.Core.Option.{Option, some, none, Option·getD}
 use Prim.Native.Nat.{ℕ}
@@ -38,12 +38,12 @@ unfoldable pub firstOf : List (ℕ × Bool) → ℕ
 firstOf [] = 0
 firstOf (c ∷ cs) = cond (c .1) (c .0) (firstOf cs)
 
--- whether the condition of that number is listed as holding
+-- whether a condition of that number is listed as holding
 unfoldable pub holds : ℕ → List (ℕ × Bool) → Bool
 holds n [] = false
-holds n (c ∷ cs) = elim (eqb n (c .0)) [ true ↦ c .1 | false ↦ holds n cs ]
+holds n (c ∷ cs) = elim (eqb n (c .0)) [ true ↦ holds n cs || c .1 | false ↦ holds n cs ]
 
--- the conditions in an order of their numbers
+-- the numbers in an order, each with whether a condition of it holds
 unfoldable pub inOrder : List ℕ → List (ℕ × Bool) → List (ℕ × Bool)
 unfolding holds
 inOrder [] reasons = []
