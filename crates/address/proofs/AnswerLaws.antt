@@ -1,18 +1,18 @@
 -- What a call answers: from a refusal's number, and as a writer of bytes to the start of a lent buffer. Assumes nothing.
-use mathlib.Core.Path.{_≡_, refl, sym, ap, ap₂, _∙_}
-use mathlib.Core.Logic.{_⊎_, inl, inr, _↔_}
-use mathlib.Core.Bool.{Bool, true, false, cond, _||_, false≢true}
-use mathlib.Core.List.{List, [], _∷_, _++_}
-use Prim.Native.Nat.{ℕ, suc, _≤_, _<_}
+use mathlib.Core.Path.{_≡_, refl, sym, ap, _∙_}
+use mathlib.Core.Logic.{_↔_}
+use mathlib.Core.Bool.{false}
+use mathlib.Core.List.{List, _++_}
+use Prim.Native.Nat.{ℕ, _≤_, _<_}
 use native.Mathlib.Decide.{decLt, ℕ-discrete}
 use native.Mathlib.Omega.{arith}
-use borrow.Author.Tests.{lt-ltb, le-ltb, eqb-true, eqb-false, eq-eqb, ne-eqb}
-use lib.Dec.{eqb, ltb, lit<}
-use lib.ListN.{length, take, drop, getD, length-append, length-drop}
+use borrow.Author.Tests.{lt-ltb, le-ltb, ne-eqb}
+use lib.Dec.{eqb, lit<}
+use lib.ListN.{length, take, drop, length-append, length-drop}
 use lib.Seq.{take-at, drop-at}
 use Rattle.address.specs.declared.Refusal.{Refusal}
 use Rattle.address.specs.declared.Refusal.the-variants.{TextTooLong, Malformed, NoRoom, LengthTooLarge, BitsBeyondLength, NoClass, HostTooLarge, FirstAboveLast, WrongFamily}
-use Rattle.address.specs.Answers.{Answer, refusalNumber, firstOf, holds, inOrder, refusal, answer, gives, refuses, writeRefusal, writeAnswer, writeLeaves}
+use Rattle.address.specs.Answers.{Answer, refusalNumber, answer, gives, refuses, writeRefusal, writeAnswer, writeLeaves}
 
 -- ---- the paper's answer, from a refusal's number
 
@@ -142,100 +142,3 @@ module _ (n : ℕ) (bytes old : List ℕ) where
         rw e (omega (arith, length-append bytes (drop (length bytes) old), length-drop (length bytes) old))
     | no m ↦ ap length (write-refused m .1)
   ]
-
--- ---- conditions that hold
-
--- one more condition of a number
-or-true : (t u : Bool) → (t || u) ≡ true → (t ≡ true) ⊎ (u ≡ true)
-or-true true u e = inl refl
-or-true false u e = inr e
-
-or-right : (t : Bool) → (t || true) ≡ true
-or-right true = refl
-or-right false = refl
-
-or-left : (t u : Bool) → t ≡ true → (t || u) ≡ true
-or-left t u e = rw e
-
-pub holds-listed : (n : ℕ) (cs : List (ℕ × Bool)) → holds n cs ≡ true → (before : List (ℕ × Bool)) × (after : List (ℕ × Bool)) × (cs ≡ before ++ (n, true) ∷ after)
-unfolding holds
-holds-listed n [] h = absurd (false≢true h)
-holds-listed n ((m, t) ∷ cs) h = go (eqb n m) refl h (holds-listed n cs)
-  where
-    later : (before : List (ℕ × Bool)) × (after : List (ℕ × Bool)) × (cs ≡ before ++ (n, true) ∷ after)
-        → (before : List (ℕ × Bool)) × (after : List (ℕ × Bool)) × ((m, t) ∷ cs ≡ before ++ (n, true) ∷ after)
-    later (before, after, e) = ((m, t) ∷ before, after, ap (λ xs. (m, t) ∷ xs) e)
-
-    go : (z : Bool) → eqb n m ≡ z → elim z [ true ↦ holds n cs || t | false ↦ holds n cs ] ≡ true
-        → (holds n cs ≡ true → (before : List (ℕ × Bool)) × (after : List (ℕ × Bool)) × (cs ≡ before ++ (n, true) ∷ after))
-        → (before : List (ℕ × Bool)) × (after : List (ℕ × Bool)) × ((m, t) ∷ cs ≡ before ++ (n, true) ∷ after)
-    go false q h ih = later (ih h)
-    go true q h ih = elim (or-true (holds n cs) t h) [
-      | inl e ↦ later (ih e)
-      | inr e ↦ ([], cs, ap₂ (λ k b. (k, b) ∷ cs) (sym (eqb-true n m q)) e)
-    ]
-
-pub listed-holds : (n : ℕ) (before after : List (ℕ × Bool)) → holds n (before ++ (n, true) ∷ after) ≡ true
-unfolding holds
-listed-holds n [] after = rw (eq-eqb n n refl, holds) (or-right (holds n after))
-listed-holds n ((m, t) ∷ before) after = go (eqb n m) (listed-holds n before after)
-  where
-    go : (z : Bool) → holds n (before ++ (n, true) ∷ after) ≡ true → elim z [ true ↦ holds n (before ++ (n, true) ∷ after) || t | false ↦ holds n (before ++ (n, true) ∷ after) ] ≡ true
-    go true h = or-left (holds n (before ++ (n, true) ∷ after)) t h
-    go false h = h
-
-pub first-holds : (cs : List (ℕ × Bool)) → 0 < firstOf cs → holds (firstOf cs) cs ≡ true
-unfolding firstOf holds
-first-holds [] h = absurd (omega arith)
-first-holds ((m, true) ∷ cs) h = rw (eq-eqb m m refl, holds) (or-right (holds m cs))
-first-holds ((m, false) ∷ cs) h = go (eqb (firstOf cs) m) (first-holds cs h)
-  where
-    go : (z : Bool) → holds (firstOf cs) cs ≡ true → elim z [ true ↦ holds (firstOf cs) cs || false | false ↦ holds (firstOf cs) cs ] ≡ true
-    go true e = or-left (holds (firstOf cs) cs) false e
-    go false e = e
-
--- ---- a writer's refusal in an order of numbers
-
--- neither 0 nor 3 is one of them
-unfoldable pub others : List ℕ → Bool
-others [] = true
-others (n ∷ ns) = cond (eqb n 0 || eqb n 3) false (others ns)
-
-all-others : (ns : List ℕ) → ((i : ℕ) → i < length ns → (0 < getD ns i 0) × ¬ (getD ns i 0 ≡ 3)) → others ns ≡ true
-unfolding others
-all-others [] h = refl
-all-others (n ∷ ns) h =
-    let f = h 0 (omega arith) in
-    rw (ne-eqb n 0 (omega (arith, f .0)), ne-eqb n 3 (f .1)) (all-others ns (λ i l. h (suc i) (omega arith)))
-
-module _ (reasons : List (ℕ × Bool)) (none : holds 3 reasons ≡ false) where
-  -- a number that is not listed may stand last
-  pub unlisted-last : (order : List ℕ) → refusal (order ++ 3 ∷ []) reasons ≡ refusal order reasons
-  unfolding refusal
-  unlisted-last [] = rw none
-  unlisted-last (n ∷ ns) = ap (λ m. cond (holds n reasons) n m) (unlisted-last ns)
-
-  -- the numbers of an order come before the room
-  pub room-after : (bytes old order : List ℕ) → others order ≡ true
-      → writeRefusal (refusal order reasons) bytes old ≡ refusal (order ++ 3 ∷ []) ((3, ltb (length old) (length bytes)) ∷ reasons)
-  unfolding refusal others
-  room-after bytes old [] w = rw none
-  room-after bytes old (n ∷ ns) w = go (eqb n 0) refl (eqb n 3) (holds n reasons) refl w (room-after bytes old ns)
-    where
-      short : Bool
-      short = ltb (length old) (length bytes)
-
-      Rest : ℕ
-      Rest = firstOf (inOrder (ns ++ 3 ∷ []) ((3, short) ∷ reasons))
-
-      go : (z : Bool) → eqb n 0 ≡ z → (y t : Bool) → holds n reasons ≡ t → cond (z || y) false (others ns) ≡ true
-          → (others ns ≡ true → writeRefusal (firstOf (inOrder ns reasons)) bytes old ≡ Rest)
-          → writeRefusal (cond t n (firstOf (inOrder ns reasons))) bytes old ≡ cond (elim y [ true ↦ holds n reasons || short | false ↦ holds n reasons ]) n Rest
-      go true q y t h w ih = absurd (false≢true w)
-      go false q true t h w ih = absurd (false≢true w)
-      go false q false true h w ih = rw h (stands bytes old n (eqb-false n 0 q))
-      go false q false false h w ih = rw h (ih w)
-
-  pub room-behind : (bytes old order : List ℕ) → ((i : ℕ) → i < length order → (0 < getD order i 0) × ¬ (getD order i 0 ≡ 3))
-      → writeRefusal (refusal order reasons) bytes old ≡ refusal (order ++ 3 ∷ []) ((3, ltb (length old) (length bytes)) ∷ reasons)
-  room-behind bytes old order h = room-after bytes old order (all-others order h)

@@ -1,9 +1,9 @@
 -- What is claimed of answers, addresses and blocks. Assumes nothing.
 use mathlib.Core.Path.{_≡_, refl, sym, ap, ap₂, _∙_}
 use mathlib.Core.Logic.{_⊎_, inl, inr, _↔_}
-use mathlib.Core.Bool.{Bool, true, false, cond, and-eq-true-iff, false≢true}
+use mathlib.Core.Bool.{Bool, true, false, and-eq-true-iff, false≢true}
 use mathlib.Core.List.{List, [], _∷_, _++_, map}
-use Prim.Native.Nat.{ℕ, zero, suc, _+_, _-_, _*_, _/_, _%_, _^_, _≤_, _<_}
+use Prim.Native.Nat.{ℕ, _+_, _-_, _*_, _/_, _%_, _^_, _≤_, _<_}
 use native.Mathlib.Decide.{decLe, decLt, ℕ-discrete}
 use native.Mathlib.Omega.{arith}
 use borrow.Author.Tests.{eqb-true, ltb-true, eq-eqb, ne-eqb}
@@ -22,7 +22,7 @@ use Rattle.address.specs.declared.Refusal.the-variants.{TextTooLong, Mal
 use Rattle.address.specs.declared.Reading.{Reading}
 use Rattle.address.specs.declared.Writing.{Writing}
 use Rattle.address.specs.declared.BlockReading.{BlockReading}
-use Rattle.address.specs.Answers.{Answer, Cases, given, not-given, refusalNumber, firstOf, holds, inOrder, refusal, precedence, gives, refuses, noAddress, noBlock, readingAnswer, writingAnswer, blockAnswer, writeRefusal, writeAnswer, writeLeaves}
+use Rattle.address.specs.Answers.{Answer, Cases, given, not-given, refusalNumber, firstOf, holds, refusal, precedence, gives, refuses, noAddress, noBlock, readingAnswer, writingAnswer, blockAnswer, writeRefusal, writeAnswer, writeLeaves}
 use Rattle.address.specs.Addresses.{IsAddress, family, width, number, addressOrder, sameAddress}
 use Rattle.address.specs.Blocks.{numbered, tooLong, bitsBeyond, blockRefusal, sameBlock}
 use Rattle.address.specs.declared.Reading.the-variants as reading
@@ -31,7 +31,8 @@ use Rattle.address.specs.declared.BlockReading.the-variants as block
 use Rattle.address.proofs.AddressLaws.{order-exactly, width-follows}
 use Rattle.address.proofs.AnswerLaws.{number-pos}
 use Rattle.address.proofs.AnswerLaws as laws
-use Rattle.address.proofs.BlockLaws.{refusal-length, refusal-bits, refusal-none, block-not-3}
+use Rattle.address.proofs.BlockLaws.{refusal-length, refusal-bits, refusal-neither, block-not-3}
+use Rattle.address.proofs.OrderLaws as orders
 
 -- ---- refusals
 
@@ -60,10 +61,10 @@ number-above-0 = number-pos
 
 -- ---- the order of refusals
 
--- "Given only when its condition holds": a number holds exactly if it is listed with a condition that does.
+-- "Given exactly when": a number holds exactly if it is listed with a condition that does.
 pub holds-exactly : (n : ℕ) (cs : List (ℕ × Bool))
     → (holds n cs ≡ true) ↔ ((before : List (ℕ × Bool)) × (after : List (ℕ × Bool)) × (cs ≡ before ++ (n, true) ∷ after))
-holds-exactly n cs = (laws.holds-listed n cs, λ p. ap (holds n) (p .2) ∙ laws.listed-holds n (p .0) (p .1))
+holds-exactly n cs = (orders.holds-listed n cs, λ p. ap (holds n) (p .2) ∙ orders.listed-holds n (p .0) (p .1))
 
 -- The first condition that holds decides, whatever stands behind it;
 pub first-decides : (before after : List (ℕ × Bool)) (n : ℕ) → map (λ c. c .1) before ≡ replicate (length before) false → firstOf (before ++ (n, true) ∷ after) ≡ n
@@ -79,7 +80,7 @@ none-holds ((m, t) ∷ conditions) h = rw (ap (λ ts. getD ts 0 false) h) (none-
 
 -- and what is refused is listed with a condition that holds.
 pub first-holds : (conditions : List (ℕ × Bool)) → 0 < firstOf conditions → holds (firstOf conditions) conditions ≡ true
-first-holds = laws.first-holds
+first-holds = orders.first-holds
 
 -- 01's order has every refusal: one whose condition alone holds is given.
 pub every-judged : (e : Refusal) → refusal precedence ((refusalNumber e, true) ∷ []) ≡ refusalNumber e
@@ -97,37 +98,28 @@ every-judged WrongFamily = refl
 module _ (reasons : List (ℕ × Bool)) where
   -- A call's refusal is one that holds, whatever the order.
   pub refusal-holds : (order : List ℕ) → 0 < refusal order reasons → holds (refusal order reasons) reasons ≡ true
-  unfolding refusal
-  refusal-holds [] h = absurd (omega arith)
-  refusal-holds (n ∷ ns) h = pick (holds n reasons) (firstOf (inOrder ns reasons)) refl (refusal-holds ns) h
-    where
-      pick : (t : Bool) (m : ℕ) → holds n reasons ≡ t → (0 < m → holds m reasons ≡ true) → 0 < cond t n m → holds (cond t n m) reasons ≡ true
-      pick true m e ih h = e
-      pick false m e ih h = ih h
+  refusal-holds = orders.refusal-holds reasons
 
   -- And where one holds, the refusal is that one or one that stands before it in the order.
   pub refusal-first : (order : List ℕ) (i : ℕ) → i < length order → holds (getD order i 0) reasons ≡ true → (j : ℕ) × (j ≤ i) × (refusal order reasons ≡ getD order j 0)
-  unfolding refusal
-  refusal-first [] i l h = absurd (omega arith)
-  refusal-first (n ∷ ns) zero l h = (0, omega arith, rw h)
-  refusal-first (n ∷ ns) (suc i) l h = pick (holds n reasons) (refusal-first ns i (omega arith) h)
-    where
-      pick : (t : Bool) → (j : ℕ) × (j ≤ i) × (firstOf (inOrder ns reasons) ≡ getD ns j 0) → (j : ℕ) × (j ≤ suc i) × (cond t n (firstOf (inOrder ns reasons)) ≡ getD (n ∷ ns) j 0)
-      pick true ih = (0, omega arith, refl)
-      pick false (j, k, e) = (suc j, omega arith, e)
+  refusal-first = orders.refusal-first reasons
+
+  -- Where no number of the order holds, nothing is refused, whatever else is listed.
+  pub refusal-none : (order : List ℕ) → ((i : ℕ) → i < length order → holds (getD order i 0) reasons ≡ false) → refusal order reasons ≡ 0
+  refusal-none = orders.refusal-none reasons
 
   -- A writer's refusal is the one that its order gives with 3 put behind it: "the lent buffer is shorter than the bytes the answer needs".
-  module _ (others : holds 3 reasons ≡ false) (bytes old : List ℕ) where
+  module _ (unlisted : holds 3 reasons ≡ false) (bytes old : List ℕ) where
     pub room-behind : (order : List ℕ) → ((i : ℕ) → i < length order → (0 < getD order i 0) × ¬ (getD order i 0 ≡ 3))
         → writeRefusal (refusal order reasons) bytes old ≡ refusal (order ++ 3 ∷ []) ((3, ltb (length old) (length bytes)) ∷ reasons)
-    room-behind = laws.room-behind reasons others bytes old
+    room-behind = orders.room-behind reasons unlisted bytes old
 
     -- 01's order is such a one: 3 is last in it.
     pub room-last : writeRefusal (refusal precedence reasons) bytes old ≡ refusal precedence ((3, ltb (length old) (length bytes)) ∷ reasons)
-    unfolding refusal laws.others
+    unfolding refusal orders.others
     room-last =
         let before3 : List ℕ = 9 ∷ 1 ∷ 2 ∷ 4 ∷ 5 ∷ 6 ∷ 7 ∷ 8 ∷ [] in
-        ap (λ n. writeRefusal n bytes old) (laws.unlisted-last reasons others before3) ∙ laws.room-after reasons others bytes old before3 refl
+        ap (λ n. writeRefusal n bytes old) (orders.unlisted-last reasons unlisted before3) ∙ orders.room-after reasons unlisted bytes old before3 refl
 
 -- ---- lent buffers
 
@@ -309,7 +301,7 @@ valid-means b h = (to, from)
     ]
 
     from : IsBlock W (numbered b) → blockRefusal b ≡ 0
-    from B = refusal-none b (B .short) (eq-eqb rest 0 (B .aligned))
+    from B = refusal-neither b (B .short) (eq-eqb rest 0 (B .aligned))
 
 -- No block value breaks both rules: a length above the width leaves blocks of one address.
 pub never-both : (b : Block) → tooLong b ≡ true → bitsBeyond b ≡ false

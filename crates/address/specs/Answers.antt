@@ -49,7 +49,7 @@ unfolding holds
 inOrder [] reasons = []
 inOrder (n ∷ ns) reasons = (n, holds n reasons) ∷ inOrder ns reasons
 
--- A call's refusal where its order is one of numbers, from each number that it can give and whether that one's condition holds.
+-- A call's refusal where its order is one of numbers: from its conditions, each with its number.
 unfoldable pub refusal : List ℕ → List (ℕ × Bool) → ℕ
 unfolding firstOf inOrder
 refusal order reasons = firstOf (inOrder order reasons)

@@ -17,7 +17,7 @@ use Rattle.address.specs.declared.Refusal.the-variants.{TextTooLong, Malformed,
 use Rattle.address.specs.Addresses.{IsAddress, width, number}
 use Rattle.address.specs.Answers.{precedence, Answer, gives, noBlock, readAnswer}
 use Rattle.address.specs.Blocks.{blockReasons}
-use Rattle.address.proofs.BlockLaws.{refusal-length, refusal-bits, refusal-none, read-valid, read-refused}
+use Rattle.address.proofs.BlockLaws.{refusal-length, refusal-bits, refusal-neither, read-valid, read-refused}
 use Rattle.address.proofs.Claims.{gives-one, gives-refuses}
 use Rattle.digits.specs.Numerals.{digitOf, decimal}
 use Rattle.digits.proofs.NumeralLaws.{decimal-part}
@@ -66,7 +66,7 @@ module _ (t : List ℕ) where
   call-answers (not-block l f) = sym (answer-malformed t l (nothing-there (blockOf t) (λ b e. f (b .address) (b .length) (reads-block t b e))))
   call-answers (length-above {a} {n} f l) = sym (checked f (read-refused (value a n) LengthTooLarge (sym (refusal-length (value a n) l))))
   call-answers (bits-beyond {a} {n} f l z) = sym (checked f (read-refused (value a n) BitsBeyondLength (sym (refusal-bits (value a n) l (ne-eqb _ 0 z)))))
-  call-answers (read-block {a} {n} f l z) = sym (checked f (read-valid (value a n) (refusal-none (value a n) l (eq-eqb _ 0 z))))
+  call-answers (read-block {a} {n} f l z) = sym (checked f (read-valid (value a n) (refusal-neither (value a n) l (eq-eqb _ 0 z))))
 
   of : {r : Answer Block} → BlockCall t r → BlockCall t (blockTextAnswer t)
   of c = subst (BlockCall t) (sym (call-answers c)) c

@@ -18,7 +18,7 @@ use Rattle.address.specs.declared.Refusal.the-variants.{LengthTooLarge, BitsBey
 use Rattle.address.specs.Addresses.{IsAddress, width, number}
 use Rattle.address.specs.Answers.{precedence, Answer, noBlock, readAnswer}
 use Rattle.address.specs.Blocks.{blockReasons}
-use Rattle.address.proofs.BlockLaws.{refusal-length, refusal-bits, refusal-none, read-valid, read-refused}
+use Rattle.address.proofs.BlockLaws.{refusal-length, refusal-bits, refusal-neither, read-valid, read-refused}
 use Rattle.octets.specs.Octets.{octets, halves}
 use Rattle.records.specs.Records.{recordBlock, recordAnswer}
 use Rattle.records.specs.RecordForm.{RecordForm, address-length, RecordCall, no-record, length-above, bits-beyond, block-record}
@@ -71,7 +71,7 @@ module _ (bs : List ℕ) where
   call-answers (no-record n m) = sym (answer-none bs (record-other bs n m))
   call-answers (length-above {b} f l) = sym (checked f (read-refused b LengthTooLarge (sym (refusal-length b l))))
   call-answers (bits-beyond {b} f l z) = sym (checked f (read-refused b BitsBeyondLength (sym (refusal-bits b l (ne-eqb _ 0 z)))))
-  call-answers (block-record {b} f l z) = sym (checked f (read-valid b (refusal-none b l (eq-eqb _ 0 z))))
+  call-answers (block-record {b} f l z) = sym (checked f (read-valid b (refusal-neither b l (eq-eqb _ 0 z))))
 
   of : {r : Answer Block} → RecordCall bs r → RecordCall bs (recordAnswer bs)
   of c = subst (RecordCall bs) (sym (call-answers c)) c

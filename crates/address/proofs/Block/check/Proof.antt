@@ -4,7 +4,7 @@ use Prim.Native.Nat.{ℕ, _-_, _%_, _≤_, _^_}
 use borrow.Author.Needs.{needs}
 use lib.Dec.{eqb}
 use Rattle.address.specs.Addresses.{width, number}
-use Rattle.address.proofs.BlockLaws.{refusal-length, refusal-bits, refusal-none}
+use Rattle.address.proofs.BlockLaws.{refusal-length, refusal-bits, refusal-neither}
 use Rattle.address.proofs.Block.check.Statement.{statement}
 use Rattle.address.proofs.Block.check.Tie as tie
 
@@ -41,7 +41,7 @@ ends-in-zeros-requires c κs = search needs
 returns-2 : tie.Need-returns-2
 returns-2 c =
     let s = start (c .before) in
-    sym (refusal-none (s .args .self) (short (c .before)) (sym (tested (c .before)) ∙ c .if2 .taken))
+    sym (refusal-neither (s .args .self) (short (c .before)) (sym (tested (c .before)) ∙ c .if2 .taken))
 
 returns-3 : tie.Need-returns-3
 returns-3 c =
