@@ -1,26 +1,24 @@
 -- Decimal parts at the start of a text. Assumes nothing.
 use mathlib.Core.Path.{_≡_, refl, sym, ap, subst, _∙_}
-use mathlib.Core.Bool.{Bool, true, false, cond, _||_, or-true, and-eq-true-iff}
+use mathlib.Core.Bool.{Bool, true, false, cond, _||_, or-true}
 use mathlib.Core.List.{List, [], _∷_}
 use mathlib.Core.Option.{some}
 use Prim.Native.Nat.{ℕ, zero, suc, _+_, _-_, _*_, _≤_, _<_}
 use native.Mathlib.Nat.{add-zero}
 use native.Mathlib.Decide.{decLe}
 use native.Mathlib.Omega.{arith}
-use borrow.Author.Tests.{lt-ltb, le-ltb, lt-leb, le-leb, eq-eqb, ne-eqb, ltb-true, leb-true}
+use borrow.Author.Tests.{lt-ltb, le-ltb, lt-leb, le-leb, eq-eqb, ne-eqb, ltb-true}
 use lib.Dec.{ltb, leb, eqb}
 use lib.ListN.{length, take, drop, getD, length-drop, drop-of-length-le}
 use lib.Seq.{drop-cons, getD-drop, length-take-le}
 use Rattle.notation.specs.Ascii.{within}
+use Rattle.notation.proofs.AsciiLaws.{within-exactly}
 use Rattle.digits.specs.declared.read.Leading.the-variants.{Nothing}
 use Rattle.digits.specs.Numerals.{digitOf, textNumber, atMost, leadingZero, partOf, digitCount, asLeading, leading}
 use Rattle.digits.specs.Decimals.{decimalOf}
 use Rattle.digits.proofs.LeadingLaws.{Scan, scan-start, scan-more, scan-stop, lead-number, lead-empty, count-le}
 
 -- ---- decimal digits
-
-within-from : (a b c : ℕ) → within a b c ≡ true → a ≤ c
-within-from a b c e = leb-true a c (and-eq-true-iff (leb a c) (leb c b) .0 e .0)
 
 digit-inside : (c : ℕ) → within 48 57 c ≡ true → digitOf c ≡ c - 48
 unfolding digitOf
@@ -32,18 +30,18 @@ unfolding digitOf
 digit-outside c e = rw e (upper (within 65 70 c) refl)
   where
     lower : (b : Bool) → within 97 102 c ≡ b → 10 ≤ cond b (c - 87) 16
-    lower true e = omega (arith, within-from 97 102 c e)
+    lower true e = omega (arith, within-exactly 97 102 c .0 e .0)
     lower false e = omega arith
 
     upper : (b : Bool) → within 65 70 c ≡ b → 10 ≤ cond b (c - 55) (cond (within 97 102 c) (c - 87) 16)
-    upper true e = omega (arith, within-from 65 70 c e)
+    upper true e = omega (arith, within-exactly 65 70 c .0 e .0)
     upper false e = lower (within 97 102 c) refl
 
 pub digit-zero : (c : ℕ) → digitOf c < 1 → c ≡ 48
 digit-zero c h = go (within 48 57 c) refl
   where
     go : (b : Bool) → within 48 57 c ≡ b → c ≡ 48
-    go true e = omega (arith, digit-inside c e, within-from 48 57 c e)
+    go true e = omega (arith, digit-inside c e, within-exactly 48 57 c .0 e .0)
     go false e = absurd (omega (arith, digit-outside c e))
 
 decimal-yes : (c : ℕ) (t : List ℕ) → within 48 57 c ≡ true → c ≤ 57 → decimalOf (c ∷ t) ≡ c - 48

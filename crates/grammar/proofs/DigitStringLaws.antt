@@ -7,11 +7,12 @@ use mathlib.Core.Option.{some}
 use Prim.Native.Nat.{ℕ, suc, _+_, _-_, _*_, _≤_, _<_}
 use native.Mathlib.Nat.{zero-mul}
 use native.Mathlib.Omega.{arith}
-use borrow.Author.Tests.{leb-true, le-leb, lt-leb, lt-ltb, ltb-true}
-use lib.Dec.{leb, ltb}
+use borrow.Author.Tests.{le-leb, lt-leb, lt-ltb, ltb-true}
+use lib.Dec.{ltb}
 use lib.ListN.{length, length-append, replicate}
 use Rattle.notation.specs.BigEndian.{numberFrom, numberOf}
 use Rattle.notation.specs.Ascii.{within}
+use Rattle.notation.proofs.AsciiLaws.{within-exactly}
 use Rattle.notation.proofs.DigitLaws.{from-append}
 use Rattle.digits.specs.Numerals.{digitOf, allDigits, textNumber}
 use Rattle.digits.proofs.NumeralLaws.{Digits, read-number, read-digits}
@@ -23,9 +24,6 @@ pub digit-value : {c d : ℕ} → DIGIT c d → (digitOf c ≡ d) × (d < 10)
 unfolding digitOf
 digit-value (x30-39 {c} h l) = (rw (le-leb 48 c h, le-leb c 57 l), omega arith)
 
-both : (a b c : ℕ) → within a b c ≡ true → (a ≤ c) × (c ≤ b)
-both a b c e = let w = and-eq-true-iff (leb a c) (leb c b) .0 e in (leb-true a c (w .0), leb-true c b (w .1))
-
 -- a byte is a digit of the grammar, or it is read as none
 kind : (c : ℕ) → HEXDIG c (digitOf c) ⊎ (digitOf c ≡ 16)
 unfolding digitOf
@@ -33,9 +31,9 @@ kind c = go (within 48 57 c) refl (within 65 70 c) refl (within 97 102 c) refl
   where
     go : (p : Bool) → within 48 57 c ≡ p → (q : Bool) → within 65 70 c ≡ q → (r : Bool) → within 97 102 c ≡ r
         → HEXDIG c (cond p (c - 48) (cond q (c - 55) (cond r (c - 87) 16))) ⊎ (cond p (c - 48) (cond q (c - 55) (cond r (c - 87) 16)) ≡ 16)
-    go true e q f r g = inl (digit (x30-39 (both 48 57 c e .0) (both 48 57 c e .1)))
-    go false e true f r g = let w = both 65 70 c f in inl (subst (HEXDIG c) (omega arith) (A-F (w .0) (w .1)))
-    go false e false f true g = let w = both 97 102 c g in inl (subst (HEXDIG c) (omega arith) (a-f (w .0) (w .1)))
+    go true e q f r g = inl (digit (x30-39 (within-exactly 48 57 c .0 e .0) (within-exactly 48 57 c .0 e .1)))
+    go false e true f r g = let w = within-exactly 65 70 c .0 f in inl (subst (HEXDIG c) (omega arith) (A-F (w .0) (w .1)))
+    go false e false f true g = let w = within-exactly 97 102 c .0 g in inl (subst (HEXDIG c) (omega arith) (a-f (w .0) (w .1)))
     go false e false f false g = inr refl
 
 pub hex-value : {c d : ℕ} → HEXDIG c d → (digitOf c ≡ d) × (d < 16)

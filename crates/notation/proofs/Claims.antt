@@ -1,17 +1,21 @@
--- What is claimed of numbers as digits, of the pieces of a text, and of what is read of each piece. Assumes nothing.
-use mathlib.Core.Path.{_≡_}
-use mathlib.Core.Logic.{_↔_}
-use mathlib.Core.List.{List, _∷_, _++_, map}
-use mathlib.Core.Option.{Option, some}
-use Prim.Native.Nat.{ℕ, _+_, _*_, _^_, _<_}
+-- What is claimed of numbers as digits, of the pieces of a text, of what is read of each piece, and of bytes of ASCII. Assumes nothing.
+use mathlib.Core.Path.{_≡_, refl}
+use mathlib.Core.Logic.{_⊎_, _↔_}
+use mathlib.Core.Bool.{true}
+use mathlib.Core.List.{List, [], _∷_, _++_, map}
+use mathlib.Core.Option.{Option, some, none}
+use Prim.Native.Nat.{ℕ, _+_, _*_, _^_, _≤_, _<_}
 use lib.ListN.{length, take}
+use Rattle.notation.specs.Ascii.{ascii, within}
 use Rattle.notation.specs.BigEndian.{AllBelow, digitsOf, numberOf}
 use Rattle.notation.specs.Pieces.{Lacks, Each, indexOf, splitOn, separated}
-use Rattle.notation.specs.Options.{every}
+use Rattle.notation.specs.Options.{orElse, every}
 use Rattle.notation.proofs.DigitLaws as digits
 use Rattle.notation.proofs.PieceLaws as pieces
 use Rattle.notation.proofs.SeparatedLaws as pieces-of
 use Rattle.notation.proofs.EveryLaws as reads
+use Rattle.notation.proofs.OptionLaws as options
+use Rattle.notation.proofs.AsciiLaws as bytes
 
 -- ---- numbers as digits
 
@@ -67,3 +71,18 @@ module _ (b : ℕ) where
 -- All pieces are read as numbers exactly if each is read as its own number, in order.
 pub every-exactly : (f : List ℕ → Option ℕ) (ps : List (List ℕ)) (xs : List ℕ) → (every f ps ≡ some xs) ↔ (map f ps ≡ map some xs)
 every-exactly = reads.every-exactly
+
+-- Of two readings the first is taken, and the second only where the first is not there.
+pub or-else-exactly : {A : Type 0} (o u : Option A) (a : A) → (orElse o u ≡ some a) ↔ ((o ≡ some a) ⊎ (o ≡ none) × (u ≡ some a))
+or-else-exactly = options.or-else-exactly
+
+-- ---- bytes of ASCII
+
+-- A byte is within two others exactly if it is neither below the one nor above the other.
+pub within-exactly : (a b c : ℕ) → (within a b c ≡ true) ↔ ((a ≤ c) × (c ≤ b))
+within-exactly = bytes.within-exactly
+
+-- A text in quotes, byte by byte: the ends of the digits and of the letters of hexadecimal, the separators and the mark.
+pub ascii-bytes : ascii "09afAF.:/ xX" ≡ 48 ∷ 57 ∷ 97 ∷ 102 ∷ 65 ∷ 70 ∷ 46 ∷ 58 ∷ 47 ∷ 32 ∷ 120 ∷ 88 ∷ []
+unfolding ascii
+ascii-bytes = refl
