@@ -1,8 +1,9 @@
 // Ranges of addresses into the fewest blocks, as records in a lent buffer. A range of IPv6 addresses that is not all of them is three runs
-// at most, each of which differs in one half only, so that one walk among numbers of 64 bits serves both families.
+// at most, each of which differs in one half only, so that the same loops, among numbers of 64 bits, serve both families.
 ghost use mathlib.Core.Path.{_≡_};
+ghost use mathlib.Core.Bool.{not};
 ghost use Prim.Native.Nat.{ℕ, _+_, _-_, _*_, _≤_, _<_, _^_};
-ghost use lib.Dec.{leb, eqb};
+ghost use lib.Dec.{leb, ltb, eqb};
 ghost use lib.ListN.{length};
 ghost use Rattle.wide.specs.Value.{value};
 ghost use Rattle.cover.specs.Blocks.{rangeBlocks};
@@ -231,6 +232,13 @@ fn is_all(first: Wide, last: Wide) -> bool
     last.saturating_sub(first).same(Wide::ones(128))
 }
 
+// Whether a run that reaches so far is the last of the range.
+fn is_last(reached: Wide, last: Wide) -> bool
+    ensures { λ r. ⌜ r ≡ not (ltb (value reached) (value last)) ⌝ }
+{
+    !reached.less(last)
+}
+
 // How many blocks a range of IPv6 addresses turns into, run after run.
 fn count_runs(first: Wide, last: Wide) -> usize
     requires { ⌜ value first ≤ value last ⌝ }
@@ -245,7 +253,7 @@ fn count_runs(first: Wide, last: Wide) -> usize
         let run = next_run(start, last);
         n += run_count(run.first, run.last);
         let reached = run.end;
-        if !reached.less(last) {
+        if is_last(reached, last) {
             return n;
         }
         start = reached.saturating_add(Wide { hi: 0, lo: 1 });
@@ -265,11 +273,11 @@ fn put_runs(first: Wide, last: Wide, out: &mut [u8], at: usize) -> usize
     loop {
         let run = next_run(start, last);
         next = put_run(run.longest, run.hi, run.first, run.last, out, next);
-        let end = run.end;
-        if !end.less(last) {
+        let reached = run.end;
+        if is_last(reached, last) {
             return next;
         }
-        start = end.saturating_add(Wide { hi: 0, lo: 1 });
+        start = reached.saturating_add(Wide { hi: 0, lo: 1 });
     }
 }
 

@@ -52,21 +52,21 @@ add-n c =
     let s = f .before .before .before .before in
     omega (arith, count-few (f .next-run .ensures) _ _ (f .before .loop .inv .1) _ (c .run-count .ensures) (lit≤ tt) (small s))
 
-less-requires : tie.Need-less-requires Inv-loop μ-loop
-less-requires c κs = search needs
+is-last-requires : tie.Need-is-last-requires Inv-loop μ-loop
+is-last-requires c κs = search needs
 
 returns-2 : tie.Need-returns-2 Inv-loop μ-loop
 returns-2 c =
     let n = c .before .before .before in
     let f = n .before in
-    count-done (f .next-run .ensures) _ _ (f .before .loop .inv .1) _ (n .run-count .ensures) (ltb-false _ _ (sym (c .before .less .ensures) ∙ not-true _ (c .if2 .taken)))
+    count-done (f .next-run .ensures) _ _ (f .before .loop .inv .1) _ (n .run-count .ensures) (ltb-false _ _ (not-true _ (sym (c .before .is-last .ensures) ∙ c .if2 .taken)))
 
 saturating-add-requires : tie.Need-saturating-add-requires Inv-loop μ-loop
 saturating-add-requires c κs = search needs
 
 -- the next address
 below : (e : tie.Else2 Inv-loop μ-loop) → value (e .before .before .before .before .next-run .result .end) < value (e .before .before .before .before .before .before .before .before .args .last)
-below e = ltb-true _ _ (sym (e .before .less .ensures) ∙ not-false _ (e .if2 .left))
+below e = ltb-true _ _ (not-false _ (sym (e .before .is-last .ensures) ∙ e .if2 .left))
 
 loop-less : tie.Need-loop-less Inv-loop μ-loop
 loop-less c =
@@ -97,7 +97,7 @@ count-runs-spec =
     next-run-requires
     run-count-requires
     add-n
-    less-requires
+    is-last-requires
     returns-2
     saturating-add-requires
     loop-less

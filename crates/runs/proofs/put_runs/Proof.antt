@@ -55,14 +55,14 @@ next-run-requires c κs = (c .loop .inv .0 .rises, c .loop .inv .1)
 put-run-requires : tie.Need-put-run-requires Inv-loop μ-loop
 put-run-requires c κs = let f = c .before in between-fits (f .before .loop .inv .0) (f .next-run .ensures)
 
-less-requires : tie.Need-less-requires Inv-loop μ-loop
-less-requires c κs = search needs
+is-last-requires : tie.Need-is-last-requires Inv-loop μ-loop
+is-last-requires c κs = search needs
 
 returns-2 : tie.Need-returns-2 Inv-loop μ-loop
 returns-2 c =
     let p = c .before .before .before .before .before in
     let f = p .before .before in
-    between-done (f .before .loop .inv .0) (f .next-run .ensures) (p .put-run .ensures) (ltb-false _ _ (sym (c .before .less .ensures) ∙ not-true _ (c .if2 .taken)))
+    between-done (f .before .loop .inv .0) (f .next-run .ensures) (p .put-run .ensures) (ltb-false _ _ (not-true _ (sym (c .before .is-last .ensures) ∙ c .if2 .taken)))
 
 same-length-2 : tie.Need-same-length-2 Inv-loop μ-loop
 same-length-2 c = puts-length (returns-2 c)
@@ -78,7 +78,7 @@ abbrev start : tie.Else2 Inv-loop μ-loop → tie.Start Inv-loop μ-loop
 start e = found e .before .before .before .before .before
 
 below : (e : tie.Else2 Inv-loop μ-loop) → value (found e .next-run .result .end) < value (start e .args .last)
-below e = ltb-true _ _ (sym (e .before .less .ensures) ∙ not-false _ (e .if2 .left))
+below e = ltb-true _ _ (not-false _ (sym (e .before .is-last .ensures) ∙ e .if2 .left))
 
 loop-less : tie.Need-loop-less Inv-loop μ-loop
 loop-less c =
@@ -108,7 +108,7 @@ put-runs-spec =
     loop-holds
     next-run-requires
     put-run-requires
-    less-requires
+    is-last-requires
     same-length-2
     returns-2
     saturating-add-requires
