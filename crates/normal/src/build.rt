@@ -25,7 +25,7 @@ fn put_groups(text: &mut [u8], at: usize, groups: [u16; 8], from: usize, to: usi
     next
 }
 
-// Puts eight groups, the run that normal text shortens as `::`.
+// Puts eight groups, the run that normal text shortens as `::`. As `put`, it stands outside 01: a text without room is cut.
 pub fn put_eight(text: &mut [u8], at: usize, groups: [u16; 8]) -> usize
     ensures { λ r. ⌜ Puts (now (text .entry)) (now (text .exit)) at r (normalGroups groups) ⌝ }
 {

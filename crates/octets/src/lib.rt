@@ -11,7 +11,7 @@ use address::Reading;
 use address::Refusal;
 use address::Writing;
 
-// Puts four bytes at the start of `out`, where there is room for them.
+// Puts four bytes at the start of `out`, where there is room for them. Else it puts nothing, outside 01, which gives refusal 3.
 pub fn put_four(v: u32, out: &mut [u8])
     ensures { λ _. ⌜ now (out .exit) ≡ writeLeaves 0 (digitsOf 256 4 v) (now (out .entry)) ⌝ }
 {
@@ -24,7 +24,7 @@ pub fn put_four(v: u32, out: &mut [u8])
     out[3] = (v % 256) as u8;
 }
 
-// The same of eight bytes.
+// The same of eight bytes, outside 01 as well.
 pub fn put_eight(v: u64, out: &mut [u8])
     ensures { λ _. ⌜ now (out .exit) ≡ writeLeaves 0 (digitsOf 256 8 v) (now (out .entry)) ⌝ }
 {

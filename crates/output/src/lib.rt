@@ -7,7 +7,7 @@ ghost use Rattle.digits.specs.Numerals.{decimal, hex, digitByte};
 ghost use Rattle.output.specs.Placing.{Puts};
 
 // Puts a byte at an index of the text, if there is room, and answers the next index. What puts stands outside 01, where a buffer that is too
-// short is refusal 3: it cuts, and its caller has the room.
+// short is refusal 3: it cuts, and a caller that must not cut has the room.
 pub fn put(text: &mut [u8], at: usize, byte: u8) -> usize
     ensures { λ r. ⌜ Puts (now (text .entry)) (now (text .exit)) at r (byte ∷ []) ⌝ }
 {

@@ -36,8 +36,8 @@ fn put_byte(byte: u8, out: &mut [u8])
     out[0] = byte;
 }
 
-// Puts the record of any block value at the start of `out`. This stands outside 01: where the record has no room, those of its parts are
-// put that have it. Each part has a test of its own: the compiler stores its bytes at once only where a test stands between it and the next.
+// Puts the record of any block value at the start of `out`. It stands outside 01, which gives refusal 3: where the record has no room, those
+// of its parts are put that have it. Each part has a test of its own: the compiler stores its bytes at once only where a test stands between it and the next.
 pub fn fill_record(block: Block, out: &mut [u8])
     ensures { λ _. ⌜ now (out .exit) ≡ partsLeave (partSizes (block .address)) (blockRecord block) (now (out .entry)) ⌝ }
 {

@@ -308,7 +308,8 @@ fn fits_ipv4(first: u32, last: u32, room: usize) -> bool
     count_ipv4(first, last) * 5 <= room
 }
 
-// Puts the records of these blocks at an index of `out` where all of them have room, and else none. Answers the next index.
+// Puts the records of these blocks at an index of `out` where all of them have room, and else none. Answers the next index. It stands outside
+// 01, which gives refusal 3 where the room is less.
 pub fn put_ipv4(first: u32, last: u32, out: &mut [u8], at: usize) -> usize
     ensures { λ r. ⌜ PutsAll (now (out .entry)) (now (out .exit)) at r (recordsOf 32 (rangeBlocks 32 first last)) ⌝ }
 {
@@ -340,6 +341,7 @@ fn fits_ipv6(first: Wide, last: Wide, room: usize) -> bool
     count_ipv6(first, last) * 17 <= room
 }
 
+// Puts their records, outside 01 as `put_ipv4` does.
 pub fn put_ipv6(first: Wide, last: Wide, out: &mut [u8], at: usize) -> usize
     ensures { λ r. ⌜ PutsAll (now (out .entry)) (now (out .exit)) at r (recordsOf 128 (rangeBlocks 128 (value first) (value last))) ⌝ }
 {
