@@ -46,7 +46,7 @@ use Rattle.grammar.specs.NormalForm.{NormalEight, NormalForm}
 use Rattle.grammar.specs.LooseForm.{OCTDIG, loose-part, LooseForm, LooseCall, read-loose}
 use Rattle.grammar.specs.NetworkForm.{slash, bytes-given, size-part, inferred-size, NetworkForm, NetworkCall, read-network, WrittenNetwork, NetworkWriting}
 use Rattle.grammar.specs.BlockForm.{BlockForm, BlockCall, read-block, WrittenBlock}
-use Rattle.grammar.specs.Specimens.{NoneOf, notStrict, notLoose, ones}
+use Rattle.grammar.specs.Specimens.{NoneOf, notStrict, notLoose, lentFour}
 use Rattle.grammar.proofs.NumberLaws.{octet-reads, reads-octet, h16-reads, reads-h16, size-reads, reads-size, size-999}
 use Rattle.grammar.proofs.DottedLaws.{address-reads, address-octets, octets-address}
 use Rattle.grammar.proofs.GrammarLaws.{grammar-reads, reads-grammar}
@@ -442,27 +442,27 @@ done : {t old new : List ℕ} {r : Answer (ℕ × ℕ)} → networkAnswer t old 
 done {t} {old} {new} {r} e f = network-answers t old r new .0 (e, f)
 
 -- Network text: the calls of 01 and of document 000, with the answer and the buffer afterwards;
-pub all-network : NetworkCall (ascii "193.168") ones (gives (24, 3)) (0xC1 ∷ 0xA8 ∷ 0x00 ∷ 0xFF ∷ [])
-    × NetworkCall (ascii "193.168.1.128") ones (gives (32, 4)) (0xC1 ∷ 0xA8 ∷ 0x01 ∷ 0x80 ∷ [])
-    × NetworkCall (ascii "193.168.1.128/24") ones (gives (24, 4)) (0xC1 ∷ 0xA8 ∷ 0x01 ∷ 0x80 ∷ [])
-    × NetworkCall (ascii "224.1") ones (gives (4, 2)) (0xE0 ∷ 0x01 ∷ 0xFF ∷ 0xFF ∷ [])
-    × NetworkCall (ascii "0xabc") ones (gives (16, 2)) (0xAB ∷ 0xC0 ∷ 0xFF ∷ 0xFF ∷ [])
-    × NetworkCall (ascii "0/0") ones (gives (0, 1)) (0x00 ∷ 0xFF ∷ 0xFF ∷ 0xFF ∷ [])
-    × NetworkCall (ascii "10/20") ones (gives (20, 3)) (0x0A ∷ 0x00 ∷ 0x00 ∷ 0xFF ∷ [])
+pub all-network : NetworkCall (ascii "193.168") lentFour (gives (24, 3)) (0xC1 ∷ 0xA8 ∷ 0x00 ∷ 0xFF ∷ [])
+    × NetworkCall (ascii "193.168.1.128") lentFour (gives (32, 4)) (0xC1 ∷ 0xA8 ∷ 0x01 ∷ 0x80 ∷ [])
+    × NetworkCall (ascii "193.168.1.128/24") lentFour (gives (24, 4)) (0xC1 ∷ 0xA8 ∷ 0x01 ∷ 0x80 ∷ [])
+    × NetworkCall (ascii "224.1") lentFour (gives (4, 2)) (0xE0 ∷ 0x01 ∷ 0xFF ∷ 0xFF ∷ [])
+    × NetworkCall (ascii "0xabc") lentFour (gives (16, 2)) (0xAB ∷ 0xC0 ∷ 0xFF ∷ 0xFF ∷ [])
+    × NetworkCall (ascii "0/0") lentFour (gives (0, 1)) (0x00 ∷ 0xFF ∷ 0xFF ∷ 0xFF ∷ [])
+    × NetworkCall (ascii "10/20") lentFour (gives (20, 3)) (0x0A ∷ 0x00 ∷ 0x00 ∷ 0xFF ∷ [])
 unfolding ascii networkAnswer networkLeaves allDigits digitOf splitOn
 all-network = (done refl refl, done refl refl, done refl refl, done refl refl, done refl refl, done refl refl, done refl refl)
 
 -- and what is refused: a size above 32, too short a buffer, a leading zero in a part and in a size, five parts, nine hex digits, none, a slash
 -- with no size, no text.
-pub none-network : NetworkCall (ascii "10/33") ones (refuses (0, 0) LengthTooLarge) ones
+pub none-network : NetworkCall (ascii "10/33") lentFour (refuses (0, 0) LengthTooLarge) lentFour
     × NetworkCall (ascii "193.168") (1 ∷ 2 ∷ []) (refuses (0, 0) NoRoom) (1 ∷ 2 ∷ [])
-    × NetworkCall (ascii "010.1") ones (refuses (0, 0) Malformed) ones
-    × NetworkCall (ascii "10/08") ones (refuses (0, 0) Malformed) ones
-    × NetworkCall (ascii "1.2.3.4.5") ones (refuses (0, 0) Malformed) ones
-    × NetworkCall (ascii "0x123456789") ones (refuses (0, 0) Malformed) ones
-    × NetworkCall (ascii "0x") ones (refuses (0, 0) Malformed) ones
-    × NetworkCall (ascii "10/") ones (refuses (0, 0) Malformed) ones
-    × NetworkCall (ascii "") ones (refuses (0, 0) Malformed) ones
+    × NetworkCall (ascii "010.1") lentFour (refuses (0, 0) Malformed) lentFour
+    × NetworkCall (ascii "10/08") lentFour (refuses (0, 0) Malformed) lentFour
+    × NetworkCall (ascii "1.2.3.4.5") lentFour (refuses (0, 0) Malformed) lentFour
+    × NetworkCall (ascii "0x123456789") lentFour (refuses (0, 0) Malformed) lentFour
+    × NetworkCall (ascii "0x") lentFour (refuses (0, 0) Malformed) lentFour
+    × NetworkCall (ascii "10/") lentFour (refuses (0, 0) Malformed) lentFour
+    × NetworkCall (ascii "") lentFour (refuses (0, 0) Malformed) lentFour
 unfolding ascii networkAnswer networkLeaves allDigits digitOf splitOn
 none-network = (done refl refl, done refl refl, done refl refl, done refl refl, done refl refl, done refl refl, done refl refl, done refl refl, done refl refl)
 

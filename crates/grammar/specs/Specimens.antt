@@ -35,5 +35,5 @@ abbrev pub notLoose : List String
 notLoose = "1.2.65536" ∷ "256.1" ∷ "4294967296" ∷ "08.0.0.1" ∷ "0x" ∷ "1.2.3.4.5" ∷ "1..2" ∷ "1." ∷ "1 " ∷ "" ∷ []
 
 -- a buffer of four bytes before a call
-abbrev pub ones : List ℕ
-ones = 0xFF ∷ 0xFF ∷ 0xFF ∷ 0xFF ∷ []
+abbrev pub lentFour : List ℕ
+lentFour = 0xFF ∷ 0xFF ∷ 0xFF ∷ 0xFF ∷ []

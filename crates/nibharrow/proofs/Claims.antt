@@ -33,7 +33,7 @@ use Rattle.blocks.specs.BlockText.{blockTextAnswer, blockText}
 use Rattle.blocks.proofs.Claims as blocks
 use Rattle.records.specs.Records.{recordSize}
 use Rattle.ranges.specs.Ranges.{rangeRecords, rangeAnswer, rangeLeaves, HoldsFewest}
-use Rattle.words.specs.Words.{wordsText, wordsRefusal, wordsRefusal}
+use Rattle.words.specs.Words.{wordsText, wordsRefusal}
 use Rattle.words.proofs.Claims as words
 use Rattle.c_answers.specs.CAnswers.{besides}
 use Rattle.nibharrow.specs.Interface.{Outcome, outcome, whenGiven, writes, addressInto, addressWritten, networkInto, networkWrites, networkWritten, octetsSplit, blockInto, blockWrites, blockWritten, rangeTo, rangeInto, wordsInto}

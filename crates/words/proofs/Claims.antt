@@ -10,7 +10,7 @@ use Rattle.address.specs.declared.Refusal.the-variants.{TextTooLong, Malformed,
 use Rattle.address.specs.Answers.{refusalNumber, missing, gives, writeAnswer}
 use Rattle.address.proofs.Claims.{one-number}
 use Rattle.address.proofs.Claims as address
-use Rattle.words.specs.Words.{refusalWords, wordsText, wordsRefusal, wordsRefusal, printable}
+use Rattle.words.specs.Words.{refusalWords, wordsText, wordsRefusal, printable}
 use Rattle.words.proofs.WordsLaws as laws
 
 -- Every refusal has its words.

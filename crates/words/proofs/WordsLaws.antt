@@ -13,7 +13,7 @@ use lib.ListN.{length, getD}
 use Rattle.address.specs.declared.Refusal.{Refusal}
 use Rattle.address.specs.Answers.{Answer, refusalNumber, missing, refuses, writeRefusal, writeAnswer, writeLeaves}
 use Rattle.address.specs.declared.Refusal.the-variants.{TextTooLong, Malformed, NoRoom, LengthTooLarge, BitsBeyondLength, NoClass, HostTooLarge, FirstAboveLast, WrongFamily}
-use Rattle.words.specs.Words.{table, wordsIn, refusalWords, wordsText, wordsRefusal, wordsRefusal, printable}
+use Rattle.words.specs.Words.{table, wordsIn, refusalWords, wordsText, wordsRefusal, printable}
 
 -- ---- the table's numbers
 

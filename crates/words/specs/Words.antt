@@ -30,7 +30,7 @@ unfoldable pub refusalWords : ℕ → Option (List ℕ)
 unfolding wordsIn ascii
 refusalWords n = wordsIn n table
 
--- what is written for a number, and the reason against one that is not of the table: it is "not of the form asked for"
+-- what is written for a number, and the number that refuses one that is not of the table: it is "not of the form asked for"
 abbrev pub wordsText : ℕ → List ℕ
 wordsText n = Option·getD (refusalWords n) []
 
