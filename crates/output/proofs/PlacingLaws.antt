@@ -1,14 +1,14 @@
 -- Bytes put into a buffer one after the other; what does not fit is left out. Assumes nothing.
-use mathlib.Core.Path.{_≡_, refl, sym, ap, ap₂, _∙_}
+use mathlib.Core.Path.{_≡_, refl, sym, ap, ap₂, subst, _∙_}
 use mathlib.Core.Bool.{Bool, true, false, cond}
 use mathlib.Core.List.{List, [], _∷_, _++_}
 use Prim.Native.Nat.{ℕ, zero, suc, _+_, _-_, _≤_, _<_}
 use native.Mathlib.Nat.{add-zero, suc-add}
-use native.Mathlib.Numerals.{unary-clauses}
+use native.Mathlib.Numerals.{add-one, unary-clauses}
 use native.Mathlib.Omega.{arith}
 use borrow.Author.Tests.{le-leb, lt-leb}
-use lib.ListN.{length, take, drop, set, length-append, length-drop, take-append-drop}
-use lib.Seq.{take-length, take-take, take-all, take-append-seam, length-take-le}
+use lib.ListN.{length, take, drop, getD, set, length-append, length-drop, take-append-drop}
+use lib.Seq.{take-suc, take-length, take-take, take-all, take-append-seam, length-take-le}
 use Rattle.output.specs.Placing.{placed, behind, Puts, fitsAt, PutsAll}
 
 -- ---- placing, one byte of the buffer after the other
@@ -141,6 +141,17 @@ module _ {a b : List ℕ} {i j : ℕ} {s : List ℕ} (p : Puts a b i j s) where
         index = omega (arith, p .index, q .index, puts-length, length-append s u);
         buffer = q .buffer ∙ ap₂ (placed u) (p .index) (p .buffer) ∙ both s u i a;
       }
+
+-- the first n of the bytes are put: one more; and all of them, where there are or fit no more
+module _ {a b : List ℕ} {i j : ℕ} (s : List ℕ) (n : ℕ) (p : Puts a b i j (take n s)) where
+  pub puts-next : n < length s → j < length b → Puts a (set b j (getD s n 0)) i (j + 1) (take (n + 1) s)
+  puts-next h room = rw (add-one n, take-suc s n 0 h) (puts-then p (puts-byte b j (getD s n 0) room))
+
+  pub puts-all : length s ≤ n → Puts a b i j s
+  puts-all h = subst (Puts a b i j) (take-all n s h) p
+
+  pub puts-cut : length b ≤ j → Puts a b i j s
+  puts-cut h = subst (Puts a b i j) (take-append-drop n s) (puts-then p (puts-full b j (drop n s) h))
 
 -- bytes that fit at the start of the buffer
 pub puts-whole : {a b : List ℕ} {n : ℕ} {s : List ℕ} → Puts a b 0 n s → length s ≤ length a → (n ≡ length s) × (take n b ≡ s)

@@ -1,15 +1,17 @@
 -- Numerals as the code writes them: a digit for each place that the number reaches, the highest first. Assumes nothing.
-use mathlib.Core.Path.{_≡_, refl, sym, ap, ap₂, _∙_}
+use mathlib.Core.Path.{_≡_, refl, sym, ap, ap₂, subst, _∙_}
 use mathlib.Core.Bool.{Bool, cond}
 use mathlib.Core.List.{List, [], _∷_, _++_, map}
 use Prim.Native.Nat.{ℕ, zero, suc, _+_, _/_, _%_, _^_, _≤_, _<_}
-use native.Mathlib.Nat.{div-div-eq-div-mul, div-one, pow-zero, pow-suc, pow-succ', mod-eq-of-lt, div-eq-of-lt, div-lt-iff-lt-mul, le-div-iff-mul-le, le-mul-of-pos-right, one-le-pow, one-mul, zero-mod, lt-of-not-le}
+use native.Mathlib.Nat.{div-div-eq-div-mul, div-one, pow-zero, pow-suc, pow-succ', mod-eq-of-lt, div-eq-of-lt, div-lt-iff-lt-mul, le-div-iff-mul-le, le-mul-of-pos-right, mul-div-cancel, one-le-pow, one-mul, zero-mod, lt-of-not-le}
 use native.Mathlib.Decide.{decLe}
 use native.Mathlib.Omega.{arith}
 use borrow.Author.Tests.{lt-ltb, le-leb, lt-leb}
 use lib.Dec.{leb, lit<}
 use Rattle.notation.specs.BigEndian.{digitsOf}
 use Rattle.digits.specs.Numerals.{digitByte, trimmed, numeral, decimal}
+use Rattle.output.specs.Placing.{Puts}
+use Rattle.output.proofs.PlacingLaws.{puts-then}
 
 -- ---- digits without leading zeros
 
@@ -83,7 +85,7 @@ module _ (base : ℕ) (pos : 0 < base) where
 
 -- ---- a decimal
 
-decimal-byte : (d : ℕ) → d < 10 → digitByte d ≡ 48 + d
+pub decimal-byte : (d : ℕ) → d < 10 → digitByte d ≡ 48 + d
 unfolding digitByte
 decimal-byte d h = rw (lt-ltb d 10 h)
 
@@ -94,3 +96,47 @@ decimal-written n h =
     let tens = decimal-byte (n / 10 % 10) (omega arith) in
     let ones = decimal-byte (n % 10) (omega arith) in
     rw (← hundreds, ← tens, ← ones) (numeral-written 10 (lit< tt) 1 n h)
+
+-- ---- a place after the other, as a loop puts them
+
+-- once the digits from place k down are put at `next`, the whole numeral is put at `at`; the code has the place as the base's power
+pub record Left (base n : ℕ) (whole old new : List ℕ) (at next place : ℕ) : Type 0 where
+  pub k : ℕ
+  pub power : place ≡ base ^ k
+  pub rest : (last : List ℕ) (end : ℕ) → Puts new last next end (written base k n) → Puts old last at end whole
+
+module _ (base : ℕ) (above : 1 < base) (n : ℕ) where
+  -- before the highest place
+  pub all-left : (k : ℕ) → n < base ^ suc k → (old : List ℕ) (at : ℕ) → Left base n (numeral base (suc k) n) old old at at (base ^ k)
+  all-left k h old at =
+      record {
+        k = k;
+        power = refl;
+        rest = λ last end p. subst (Puts old last at end) (all-written base (omega arith) k n h) p;
+      }
+
+  module _ {whole old new : List ℕ} {at next place : ℕ} (l : Left base n whole old new at next place) {newer : List ℕ} {end : ℕ} where
+    -- a place, if the number reaches it
+    pub place-put : base ≤ place → Puts new newer next end (cond (leb place n) (digitByte (n / place % base) ∷ []) []) → Left base n whole old newer at end (place / base)
+    place-put h p = go (l .k) (l .power) (l .rest)
+      where
+        go : (k : ℕ) → place ≡ base ^ k
+            → ((last : List ℕ) (end : ℕ) → Puts new last next end (written base k n) → Puts old last at end whole)
+            → Left base n whole old newer at end (place / base)
+        go zero e rest = absurd (omega (arith, pow-zero base))
+        go (suc k) e rest =
+            record {
+              k = k;
+              power = ap (λ (x : ℕ). x / base) (e ∙ pow-suc base k) ∙ mul-div-cancel (base ^ k) (omega arith);
+              rest = λ last end q. rest last end (puts-then (rw e at p) q);
+            }
+
+    -- the last one
+    pub last-put : place < base → Puts new newer next end (digitByte (n % base) ∷ []) → Puts old newer at end whole
+    last-put h p = go (l .k) (l .power) (l .rest)
+      where
+        go : (k : ℕ) → place ≡ base ^ k
+            → ((last : List ℕ) (end : ℕ) → Puts new last next end (written base k n) → Puts old last at end whole)
+            → Puts old newer at end whole
+        go zero e rest = rest newer end p
+        go (suc k) e rest = absurd (omega (arith, pow-succ' base k, le-mul-of-pos-right base (one-le-pow k base (omega arith))))
