@@ -1,0 +1,2 @@
+-- Notes: what is told of a refused line.
+pub mod Notes
