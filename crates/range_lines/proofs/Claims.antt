@@ -1,20 +1,27 @@
--- What is claimed of the range program: line after line, wherever the input is cut (01, "Blocks and ranges"). Assumes nothing.
+-- What is claimed of the range program: line after line, wherever the input is cut and however long the buffers are (01, "Blocks and ranges").
+-- Assumes nothing.
 use mathlib.Core.Path.{_≡_, refl, sym, ap, ap₂, subst, _∙_}
-use mathlib.Core.Logic.{inl, inr, _↔_}
+use mathlib.Core.Logic.{_⊎_, inl, inr, _↔_}
+use mathlib.Core.Bool.{Bool, true, false}
 use mathlib.Core.List.{List, [], _∷_, _++_, append-assoc, append-nil, flatten, map}
-use Prim.Native.Nat.{ℕ, zero, suc, _≤_, _<_}
+use Prim.Native.Nat.{ℕ, zero, suc, _+_, _≤_, _<_}
 use native.Mathlib.Omega.{arith}
-use lib.ListN.{length, drop, length-append}
+use lib.ListN.{length, take, drop, length-append}
 use Rattle.notation.specs.Pieces.{Lacks}
+use Rattle.output.proofs.PlacingLaws.{puts-behind}
 use Rattle.range_text.specs.RangeText.{lineText}
 use Rattle.range_text.specs.LineForm.{newline, AllFree, ended, RangeLine, FewestLines}
 use Rattle.range_text.proofs.Claims as range
 use Rattle.range_text.proofs.LineFormLaws.{free-lacks, first-byte}
 use Rattle.range_text.proofs.LineReadLaws.{line-free}
-use Rattle.range_lines.specs.ProgramForm.{Program, no-input, last, first}
-use Rattle.range_lines.specs.Lines.{programText, turnUsed, turnText, turnLeft, fedAll}
-use Rattle.range_lines.proofs.LinesLaws as lines
-use Rattle.range_lines.proofs.CutLaws.{all-fed}
+use Rattle.range_lines.specs.declared.Reader.{Reader}
+use Rattle.range_lines.specs.declared.Fed.{Fed}
+use Rattle.range_lines.specs.Lines.{linesOf, programText, Report, followed, report}
+use Rattle.range_lines.specs.Feeding.{placeOf, atStart, noteSpace, fed, Feeds, Session}
+use Rattle.range_lines.specs.ProgramForm.{Program, no-input, last, first, Told, AllRanges}
+use Rattle.range_lines.proofs.LineLaws as lines
+use Rattle.range_lines.proofs.SessionLaws as session
+use Rattle.range_lines.proofs.ReportLaws as reports
 
 -- ---- lines
 
@@ -26,11 +33,10 @@ empty-input = refl
 -- "Each line is answered by itself": a line with its newline, and the input behind it.
 pub line-alone : (line rest : List ℕ) → Lacks 10 line → programText (line ++ 10 ∷ rest) ≡ lineText line ++ programText rest
 unfolding programText
-line-alone = lines.begun-line
+line-alone line rest l = ap (λ ls. flatten (map lineText ls)) (lines.line-ended line rest l)
 
 -- "A last line without its newline is read as any other": the newline behind it changes nothing.
-pub last-line : (input line : List ℕ) → Lacks 10 line → 0 < length line → programText (input ++ line) ≡ programText (input ++ (line ++ 10 ∷ []))
-unfolding programText
+pub last-line : (input line : List ℕ) → Lacks 10 line → 0 < length line → linesOf (input ++ line) ≡ linesOf (input ++ (line ++ 10 ∷ []))
 last-line input line l h = lines.last-ended line l h input [] (lines.nothing-lacks 10)
 
 -- Each line of the input gets its own answer, in order.
@@ -50,9 +56,10 @@ demand-3 line rest r = (lineText line, range.demand-3 r, line-alone line rest (f
 -- ---- the input, sentence by sentence
 
 program-answers : {input text : List ℕ} → Program input text → programText input ≡ text
+unfolding programText
 program-answers no-input = empty-input
 program-answers (last {line} {text} f h l) =
-    last-line [] line (free-lacks f) h
+    ap (λ ls. flatten (map lineText ls)) (last-line [] line (free-lacks f) h)
     ∙ line-alone line [] (free-lacks f)
     ∙ ap (λ r. lineText line ++ r) empty-input
     ∙ append-nil (lineText line)
@@ -76,21 +83,61 @@ pub program-exactly : (input text : List ℕ) → (programText input ≡ text) �
 program-exactly input text =
     (λ e. let s = some-program (length input) input (omega arith) in subst (Program input) (sym (program-answers (s .1)) ∙ e) (s .1), program-answers)
 
--- ---- pieces
+-- ---- what lines give
 
--- One turn, where p is begun, takes a part of the piece: what it answers, and what is still to be written for all that is left, are
--- together what was to be written.
-pub one-turn : (p piece rest : List ℕ) → Lacks 10 p
-    → (programText (p ++ (piece ++ rest)) ≡ turnText p piece ++ programText (turnLeft p piece ++ (drop (turnUsed piece) piece ++ rest))) × Lacks 10 (turnLeft p piece)
+module _ (explain : Bool) (name : List ℕ) (k : ℕ) where
+  -- The answers are those of the lines, each by itself, whatever is told beside them.
+  pub answers-alone : (ls : List (List ℕ)) → report explain name k ls .text ≡ flatten (map lineText ls)
+  answers-alone = reports.text-report explain name k
+
+  -- Lines behind others give what they give alone, with their own numbers.
+  pub numbered-on : (ls ms : List (List ℕ)) → k + length ls ≤ 18446744073709551615
+      → report explain name k (ls ++ ms) ≡ followed (report explain name k ls) (report explain name (k + length ls) ms)
+  numbered-on ls ms = reports.report-behind explain name ls ms k
+
+  -- None is refused exactly if each asks for a range, and so is answered with blocks.
+  pub unrefused-exactly : (ls : List (List ℕ)) → (report explain name k ls .refused ≡ false) ↔ AllRanges ls
+  unrefused-exactly ls = (reports.unrefused-ranges explain name k ls, reports.ranges-unrefused explain name k ls)
+
+module _ (name : List ℕ) (k : ℕ) (ls : List (List ℕ)) where
+  -- Nothing is told unasked,
+  pub untold : report false name k ls .notes ≡ []
+  untold = reports.quiet-report name k ls
+
+  -- and where it is asked for, a note of each refused line, with its number, and of no other. (Numbers of lines have 64 bits.)
+  pub told-exactly : (t : List ℕ) → k + length ls ≤ 18446744073709551615 → (report true name k ls .notes ≡ t) ↔ Told name k ls t
+  told-exactly t h = (reports.told-back name k ls h t, reports.told-forth name k ls h t)
+
+-- ---- a call
+
+module _ {explain : Bool} {name : List ℕ} {s : Reader} {piece out outAfter notes notesAfter : List ℕ} {r : Fed} (f : Feeds explain name s piece out outAfter notes notesAfter r) where
+  -- Nothing is cut: the first bytes of the two buffers are all that the lines which were taken give, and the others stay.
+  pub nothing-cut : (take (r .next) outAfter ≡ fed explain name (length out) (length notes) (placeOf s) piece .report .text)
+      × (take (r .noted) notesAfter ≡ fed explain name (length out) (length notes) (placeOf s) piece .report .notes)
+      × (drop (r .next) outAfter ≡ drop (r .next) out)
+      × (drop (r .noted) notesAfter ≡ drop (r .noted) notes)
+  nothing-cut = (session.answers-held explain name f .1, session.told-held explain name f .1, puts-behind (f .answers), puts-behind (f .told))
+
+  -- It stops early only where another answer, or another note, might have no room behind what is put,
+  pub stops-for-room : (r .taken ≡ length piece) ⊎ ((length out < r .next + 11176) ⊎ (length notes < r .noted + noteSpace explain name))
+  stops-for-room = session.stops explain name f
+
+  -- and with room for one of each it takes a line, or all.
+  pub takes-a-line : 11176 ≤ length out → noteSpace explain name ≤ length notes → 0 < length piece → 0 < r .taken
+  takes-a-line = session.goes-on explain name f
+
+-- ---- the input
+
+-- Wherever the input is cut into pieces, and wherever a call stops for room: what all the calls leave in their buffers, end to end, is what the
+-- lines of the whole input give. `start` answers a reader at the start, every call of `feed` is one of `feeds`, and one of `finish` is `ends`.
+pub whole-input : {explain : Bool} {name : List ℕ} {s : Reader} {input : List ℕ} {all : Report} → Session explain name s input all → placeOf s ≡ atStart
+    → all ≡ report explain name 1 (linesOf input)
+whole-input {explain} {name} c e = session.whole-session explain name c e
+
+-- So the answers are the program's, which are what the paper's sentences say.
+pub whole-text : {explain : Bool} {name : List ℕ} {s : Reader} {input : List ℕ} {all : Report} → Session explain name s input all → placeOf s ≡ atStart
+    → (all .text ≡ programText input) × Program input (all .text)
 unfolding programText
-one-turn p piece rest l = (lines.turn-law p piece rest l, lines.left-lacks p piece l)
-
--- Wherever the input is cut into pieces: the answers of all the turns and the answer at the end of the input, end to end, are the answer to
--- the whole input. Here `begin` begins no line, `take_line` answers turnText, takes turnUsed and leaves turnLeft, and `finish` answers the line
--- that is left.
-pub cut-anywhere : (pieces : List (List ℕ)) → fedAll [] pieces ≡ programText (flatten pieces)
-cut-anywhere = all-fed
-
--- So what is put piece by piece is what the paper's sentences say of the whole input.
-pub cut-exactly : (pieces : List (List ℕ)) (text : List ℕ) → (fedAll [] pieces ≡ text) ↔ Program (flatten pieces) text
-cut-exactly pieces text = let p = program-exactly (flatten pieces) text in (λ e. p .0 (sym (cut-anywhere pieces) ∙ e), λ h. cut-anywhere pieces ∙ p .1 h)
+whole-text {explain} {name} {input = input} {all} c e =
+    let t : all .text ≡ programText input = ap (λ r. r .text) (whole-input c e) ∙ answers-alone explain name 1 (linesOf input) in
+    (t, program-exactly input (all .text) .0 (sym t))

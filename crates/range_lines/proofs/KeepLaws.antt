@@ -6,7 +6,7 @@ use native.Mathlib.Numerals.{add-one}
 use native.Mathlib.Omega.{arith}
 use lib.ListN.{length, take, drop, getD, set, length-append, length-set, length-take, take-append-drop}
 use lib.Seq.{take-all, take-suc, take-suc-set, take-append-le}
-use Rattle.range_lines.specs.Lines.{kept}
+use Rattle.range_lines.specs.Feeding.{kept}
 
 pub kept-all : (l : List ℕ) → length l ≤ 130 → kept l ≡ l
 kept-all l h = take-all 130 l h
@@ -29,14 +29,14 @@ keeps-start more bytes n e =
 
 module _ (p more bytes : List ℕ) (n i : ℕ) (k : Keeps p more bytes n i) where
   -- how much of the line there is so far
-  so-far : min (length (p ++ take i more)) 130 ≡ min n 130
-  so-far = omega (arith, k .places, ap length (k .holds), length-take (min n 130) bytes, length-take 130 (p ++ take i more))
+  done-far : min (length (p ++ take i more)) 130 ≡ min n 130
+  done-far = omega (arith, k .places, ap length (k .holds), length-take (min n 130) bytes, length-take 130 (p ++ take i more))
 
   pub keeps-more : i < length more → n < 130 → Keeps p more (set bytes n (getD more i 0)) (n + 1) (i + 1)
   keeps-more h r =
       let x = getD more i 0 in
       let l = p ++ take i more in
-      let short : length l ≡ n = omega (arith, so-far) in
+      let short : length l ≡ n = omega (arith, done-far) in
       let here : min n 130 ≡ n = omega arith in
       let next : min (n + 1) 130 ≡ suc n = omega arith in
       let line : p ++ take (i + 1) more ≡ l ++ x ∷ [] = rw (add-one i, take-suc more i 0 h) (sym (append-assoc p (take i more) (x ∷ []))) in
@@ -56,7 +56,7 @@ module _ (p more bytes : List ℕ) (n i : ℕ) (k : Keeps p more bytes n i) wher
       let l = p ++ take i more in
       let here : min n 130 ≡ 130 = omega arith in
       let line : p ++ more ≡ l ++ drop i more = ap (λ m. p ++ m) (sym (take-append-drop i more)) ∙ sym (append-assoc p (take i more) (drop i more)) in
-      ap (λ m. take m bytes) (sym here) ∙ k .holds ∙ sym (ap kept line ∙ take-append-le 130 l (drop i more) (omega (arith, so-far)))
+      ap (λ m. take m bytes) (sym here) ∙ k .holds ∙ sym (ap kept line ∙ take-append-le 130 l (drop i more) (omega (arith, done-far)))
 
   -- no bytes are left
   pub keeps-end : length more ≤ i → take (min n 130) bytes ≡ kept (p ++ more)

@@ -1,76 +1,61 @@
--- The input of the range program cut into lines (01, "Blocks and ranges"). Assumes nothing.
-use mathlib.Core.Bool.{cond}
-use mathlib.Core.List.{List, [], _∷_, _++_}
-use Prim.Native.Nat.{ℕ, zero, suc, min}
-use lib.ListN.{length, take, drop}
-use Rattle.notation.specs.Pieces.{contains, indexOf, splitOn}
-use Rattle.range_text.specs.RangeText.{lineText}
-use Rattle.range_lines.specs.declared.Pending.{Pending}
+-- The lines of an input of the range program, and what is written for them (01, "Blocks and ranges"). Assumes nothing.
+use mathlib.Core.Bool.{Bool, false, cond, not, _&&_, _||_}
+use mathlib.Core.List.{List, [], _∷_, _++_, flatten, map}
+use Prim.Native.Nat.{ℕ, suc, min}
+use lib.Dec.{eqb}
+use Rattle.notation.specs.Pieces.{splitOn}
+use Rattle.notes.specs.Notes.{noteText}
+use Rattle.range_text.specs.RangeText.{LineAnswer, answerLine, lineText}
 
--- ---- the program
+-- ---- the lines
 
--- the answers to lines of which the last has no newline: "A last line without its newline is read as any other", and no bytes are no line
-unfoldable pub linesText : List (List ℕ) → List ℕ
-unfolding lineText
-linesText [] = []
-linesText ([] ∷ []) = []
-linesText ((x ∷ p) ∷ []) = lineText (x ∷ p)
-linesText (p ∷ q ∷ ps) = lineText p ++ linesText (q ∷ ps)
+-- those among the pieces between newlines: "A last line without its newline is read as any other", and no bytes are no line
+unfoldable pub linesAmong : List (List ℕ) → List (List ℕ)
+linesAmong [] = []
+linesAmong ([] ∷ []) = []
+linesAmong ((x ∷ p) ∷ []) = (x ∷ p) ∷ []
+linesAmong (p ∷ q ∷ ps) = p ∷ linesAmong (q ∷ ps)
+
+-- those of an input, each without its newline
+unfoldable pub linesOf : List ℕ → List (List ℕ)
+unfolding linesAmong splitOn
+linesOf input = linesAmong (splitOn 10 input)
 
 -- "Each line is answered by itself": what the program writes
 unfoldable pub programText : List ℕ → List ℕ
-unfolding linesText splitOn
-programText input = linesText (splitOn 10 input)
+unfolding flatten linesOf
+programText input = flatten (map lineText (linesOf input))
 
--- ---- a line that is not finished
+-- ---- what is told beside the answers
 
--- the bytes that a state holds. What a contract says of a state it says of these: the other bytes are free, and a length above 130 is 130.
-abbrev pub pendingText : Pending → List ℕ
-pendingText p = take (min (p .len) 130) (p .bytes)
+-- the number of the line behind line k: numbers of lines have 64 bits, and stop at the last of them
+abbrev pub nextLine : ℕ → ℕ
+nextLine k = min (suc k) 18446744073709551615
 
--- what is kept of a line: no answer depends on more than its first 130 bytes
-abbrev pub kept : List ℕ → List ℕ
-kept line = take 130 line
+-- what is told of line k of a file that is refused by n, or not at all, where notes are wanted
+unfoldable pub toldOf : Bool → List ℕ → ℕ → ℕ → List ℕ
+unfolding noteText
+toldOf explain name k n = cond (explain && not (eqb n 0)) (noteText name k n) []
 
--- ---- one turn: a piece of the input is taken up to the end of its first line, or whole where it ends none
-
--- how many bytes are taken
-unfoldable pub turnUsed : List ℕ → ℕ
-unfolding contains indexOf
-turnUsed piece = cond (contains 10 piece) (suc (indexOf 10 piece)) (length piece)
-
--- what is answered, where p was begun before
-unfoldable pub turnText : List ℕ → List ℕ → List ℕ
-unfolding contains indexOf lineText
-turnText p piece = cond (contains 10 piece) (lineText (p ++ take (indexOf 10 piece) piece)) []
-
--- what is begun behind it
-unfoldable pub turnLeft : List ℕ → List ℕ → List ℕ
-unfolding contains
-turnLeft p piece = cond (contains 10 piece) [] (kept (p ++ piece))
-
--- ---- turn after turn
-
--- what the turns put, and what is begun behind them
-pub record Fed : Type 0 where
+-- the answers to lines, what is told of them, and whether any of them is refused
+pub record Report : Type 0 where
   pub text : List ℕ
-  pub left : List ℕ
+  pub notes : List ℕ
+  pub refused : Bool
 
--- at most n turns on a piece, each on what the one before it did not take, until all is taken
-unfoldable pub turns : ℕ → List ℕ → List ℕ → Fed
-unfolding turnText turnLeft turnUsed
-turns zero p piece = record { text = []; left = p }
-turns (suc n) p [] = record { text = []; left = p }
-turns (suc n) p (x ∷ t) =
-    let more = turns n (turnLeft p (x ∷ t)) (drop (turnUsed (x ∷ t)) (x ∷ t)) in
-    record { text = turnText p (x ∷ t) ++ more .text; left = more .left }
+-- of no lines, and of lines behind others
+abbrev pub silence : Report
+silence = record { text = []; notes = []; refused = false }
 
--- each takes a byte or more, so that a piece needs no more turns than it has bytes
-abbrev pub fed : List ℕ → List ℕ → Fed
-fed p piece = turns (length piece) p piece
+abbrev pub followed : Report → Report → Report
+followed a b = record { text = a .text ++ b .text; notes = a .notes ++ b .notes; refused = a .refused || b .refused }
 
--- all that is written where p is begun: the pieces are fed one after the other, and then the input ends
-unfoldable pub fedAll : List ℕ → List (List ℕ) → List ℕ
-unfolding turns linesText
-fedAll p [] = linesText (p ∷ [])
-fedAll p (piece ∷ pieces) = fed p piece .text ++ fedAll (fed p piece .left) pieces
+-- of line k
+abbrev pub lineReport : Bool → List ℕ → ℕ → LineAnswer → Report
+lineReport explain name k a = record { text = a .text; notes = toldOf explain name k (a .number); refused = not (eqb (a .number) 0) }
+
+-- of lines from line k on
+unfoldable pub report : Bool → List ℕ → ℕ → List (List ℕ) → Report
+unfolding toldOf
+report explain name k [] = silence
+report explain name k (l ∷ ls) = followed (lineReport explain name k (answerLine l)) (report explain name (nextLine k) ls)

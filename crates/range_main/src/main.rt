@@ -1,105 +1,444 @@
-// The range program: reads lines of two addresses, and writes the blocks from the first to the second, one on a line.
+// The range program: answers each line of its input, two addresses, with the blocks from the first to the second.
+//
+// range_main [STATUS [EXPLAIN [FILE ..]]]: the files in turn, or standard input; a FILE that is `-` is standard input. Where EXPLAIN is `-e` each
+// refused line is told on standard error. Where STATUS is a digit the program ends by writing its status, a digit, to that descriptor: the
+// language gives it no other way to tell it.
 ghost use mathlib.Core.Path.{_≡_};
-ghost use Prim.Native.Nat.{_+_, _≤_};
+ghost use mathlib.Core.Bool.{false, cond};
+ghost use Prim.Native.Nat.{_+_, _≤_, max};
 ghost use lib.ListN.{length};
+ghost use Rattle.range_main.specs.Runs.{Within, isMore, endOf, Finished, statusOf};
+use libc::STDERR_FILENO;
 use libc::STDIN_FILENO;
 use libc::STDOUT_FILENO;
-use range_lines::Pending;
-use range_lines::begin;
+use output::put_bytes;
+use range_lines::Fed;
+use range_lines::Reader;
+use range_lines::feed;
 use range_lines::finish;
-use range_lines::take_line;
+use range_lines::start;
 
-// The line that is begun, and how many bytes of the output are not written yet.
-struct State {
-    pending: Pending,
-    used: usize,
+// How far an input is: there is more, or it has ended, or it could not be read, or the answers could not be written.
+pub enum End {
+    More,
+    Ended,
+    Unread,
+    Unwritten,
 }
 
-// Writes the output if another answer, of at most 11,176 bytes, may have no room behind it. Answers how much is not written yet.
-fn flush(out: &[u8], used: usize) -> usize
-    requires { ⌜ (length (now out) ≡ 65536) × (used ≤ 65536) ⌝ }
-    ensures { λ r. ⌜ r + 11176 ≤ 65536 ⌝ }
-{
-    if used <= 54360 {
-        return used;
+// An input that is being read: where the reading stands, the bytes of the last piece that are not taken yet, whether a line was refused, and
+// how far it is.
+pub struct Run {
+    pub reader: Reader,
+    pub from: usize,
+    pub to: usize,
+    pub refused: bool,
+    pub end: End,
+}
+
+// An input that is done with, and after how many turns.
+pub struct Outcome {
+    pub end: End,
+    pub refused: bool,
+    pub turns: u64,
+}
+
+// A status, and whether the program is to stop.
+struct Verdict {
+    status: u8,
+    stop: bool,
+}
+
+// What is written of a text: how many bytes the calls have taken, and how many are left.
+struct Sent {
+    moved: usize,
+    left: usize,
+}
+
+// What has come of the files: the worst of their statuses, how many were answered, and whether the program stopped before the others.
+struct Tally {
+    status: u8,
+    files: usize,
+    stop: bool,
+}
+
+// Tells on standard error what failed, with the system's words.
+fn tell(what: &[u8]) {
+    let mut line = [0u8; 4200];
+    let behind = put_bytes(&mut line, 0, b"nibharrow: ");
+    let end = put_bytes(&mut line, behind, what);
+    os::fail(&line[..end]);
+}
+
+// Whether a call that answered `moved` was interrupted, so that it is to be made again.
+fn interrupted(moved: isize) -> bool {
+    if moved < 0 {
+        return os::errno() == libc::EINTR;
     }
-    io::write_all(STDOUT_FILENO, &out[..used]);
+    false
+}
+
+// Whether a call that wrote so many bytes has failed.
+fn stuck(put: isize, taken: usize) -> bool {
+    if 0 < taken {
+        return false;
+    }
+    !interrupted(put)
+}
+
+// Writes a text. Each byte was taken by a call, or is left: none is, unless a call failed.
+fn write_text(fd: i32, text: &[u8]) -> Sent
+    ensures { λ r. ⌜ r .moved + r .left ≡ length (now (text .entry)) ⌝ }
+{
+    let mut rest = text;
+    let mut moved: usize = 0;
+    let mut calls: u64 = 0;
+    while 0 < rest.len() {
+        let put = libc::write(fd, rest);
+        let taken = io::count(put, rest);
+        if stuck(put, taken) {
+            return Sent {
+                moved,
+                left: rest.len(),
+            };
+        }
+        if calls == u64::MAX {
+            return Sent {
+                moved,
+                left: rest.len(),
+            };
+        }
+        calls += 1;
+        moved += taken;
+        rest = &rest[taken..];
+    }
+    Sent { moved, left: 0 }
+}
+
+// The input could not be read, or the answers could not be written.
+fn failed(run: Run, end: End) -> Run
+    ensures { λ r. ⌜ Within r ⌝ }
+{
+    let reader = run.reader;
+    Run {
+        reader,
+        from: 0,
+        to: 0,
+        refused: run.refused,
+        end,
+    }
+}
+
+// Writes what a call has put, and answers whether all of it is written.
+fn write_answers(fed: Fed, out: &[u8], notes: &[u8]) -> bool
+    requires { ⌜ (fed .next ≤ length (now out)) × (fed .noted ≤ length (now notes)) ⌝ }
+{
+    let next = fed.next;
+    let noted = fed.noted;
+    let answers = write_text(STDOUT_FILENO, &out[..next]);
+    if 0 < answers.left {
+        tell(b"write error");
+        return false;
+    }
+    let told = write_text(STDERR_FILENO, &notes[..noted]);
+    told.left == 0
+}
+
+// Answers the bytes that are read and not taken yet, as far as the buffers have room for the answers.
+fn answer_piece(
+    run: Run,
+    input: &[u8],
+    explain: bool,
+    name: &[u8],
+    out: &mut [u8],
+    notes: &mut [u8],
+) -> Run
+    requires { ⌜ Within run × (length (now input) ≡ 65536) ⌝ }
+    ensures { λ r. ⌜ Within r ⌝ }
+{
+    let from = run.from;
+    let to = run.to;
+    let before = run.reader;
+    let fed = feed(before, &input[from..to], explain, name, out, notes);
+    if !write_answers(fed, out, notes) {
+        return failed(run, End::Unwritten);
+    }
+    let reader = fed.reader;
+    Run {
+        reader,
+        from: from + fed.taken,
+        to,
+        refused: run.refused || fed.refused,
+        end: End::More,
+    }
+}
+
+// The input has ended, unless a line is still begun.
+fn end_of(reader: Reader) -> End
+    ensures { λ r. ⌜ r ≡ endOf reader ⌝ }
+{
+    let pending = reader.pending;
+    if 0 < pending.len {
+        return End::More;
+    }
+    End::Ended
+}
+
+// Answers a last line without its newline.
+fn answer_end(run: Run, explain: bool, name: &[u8], out: &mut [u8], notes: &mut [u8]) -> Run
+    ensures { λ r. ⌜ Within r ⌝ }
+{
+    let before = run.reader;
+    let fed = finish(before, explain, name, out, notes);
+    if !write_answers(fed, out, notes) {
+        return failed(run, End::Unwritten);
+    }
+    let reader = fed.reader;
+    Run {
+        reader,
+        from: 0,
+        to: 0,
+        refused: run.refused || fed.refused,
+        end: end_of(reader),
+    }
+}
+
+// One turn: reads a piece where nothing is left of the last one, answers it, and writes the answers.
+fn turn(
+    fd: i32,
+    run: Run,
+    input: &mut [u8],
+    explain: bool,
+    name: &[u8],
+    out: &mut [u8],
+    notes: &mut [u8],
+) -> Run
+    requires { ⌜ Within run × (length (now input) ≡ 65536) ⌝ }
+    ensures { λ r. ⌜ Within r ⌝ }
+{
+    if run.from < run.to {
+        return answer_piece(run, input, explain, name, out, notes);
+    }
+    let got = libc::read(fd, input);
+    if interrupted(got) {
+        return run;
+    }
+    if got < 0 {
+        tell(name);
+        return failed(run, End::Unread);
+    }
+    let n = io::count(got, input);
+    if n == 0 {
+        return answer_end(run, explain, name, out, notes);
+    }
+    let reader = run.reader;
+    let fresh = Run {
+        reader,
+        from: 0,
+        to: n,
+        refused: run.refused,
+        end: End::More,
+    };
+    answer_piece(fresh, input, explain, name, out, notes)
+}
+
+// Whether there is more.
+fn goes_on(end: End) -> bool
+    ensures { λ r. ⌜ r ≡ isMore end ⌝ }
+{
+    match end {
+        End::More => true,
+        End::Ended => false,
+        End::Unread => false,
+        End::Unwritten => false,
+    }
+}
+
+// Reads, answers and writes, turn after turn, until there is no more. Nothing says that an input ends, so the turns are counted, up to a number
+// that no run reaches.
+fn answer_all(fd: i32, explain: bool, name: &[u8]) -> Outcome
+    ensures { λ r. ⌜ Finished r ⌝ }
+{
+    let mut input = io::large_buffer();
+    let mut out = io::large_buffer();
+    let mut notes = io::large_buffer();
+    let mut run = Run {
+        reader: start(),
+        from: 0,
+        to: 0,
+        refused: false,
+        end: End::More,
+    };
+    let mut turns: u64 = 0;
+    while turns < u64::MAX {
+        run = turn(fd, run, &mut input, explain, name, &mut out, &mut notes);
+        turns += 1;
+        let end = run.end;
+        if !goes_on(end) {
+            return Outcome {
+                end,
+                refused: run.refused,
+                turns,
+            };
+        }
+    }
+    let end = run.end;
+    Outcome {
+        end,
+        refused: run.refused,
+        turns,
+    }
+}
+
+// The status of an input that has ended.
+fn refused_status(refused: bool) -> u8
+    ensures { λ r. ⌜ r ≡ cond refused 1 0 ⌝ }
+{
+    if refused {
+        return 1;
+    }
     0
 }
 
-// Takes all of a piece of the input, line after line.
-fn feed(piece: &[u8], out: &mut [u8], state: State) -> State
-    requires { ⌜ (length (now out) ≡ 65536) × (state .used ≤ 65536) ⌝ }
-    ensures { λ r. ⌜ r .used ≤ 65536 ⌝ }
+// The status of an input. Where the answers could not be written nothing more is to be read.
+fn judge(outcome: Outcome, name: &[u8]) -> Verdict
+    ensures { λ r. ⌜ r .status ≡ statusOf (outcome .end) (outcome .refused) ⌝ }
 {
-    let mut rest = piece;
-    let mut pending = state.pending;
-    let mut used = state.used;
-    while 0 < rest.len() {
-        let at = flush(out, used);
-        let t = take_line(pending, rest, out, at);
-        pending = t.pending;
-        used = t.next;
-        let taken = t.used;
-        rest = &rest[taken..];
-    }
-    State { pending, used }
-}
-
-// What one read brings, and whether to go on.
-struct Round {
-    state: State,
-    more: bool,
-}
-
-fn read_once(out: &mut [u8], state: State) -> Round
-    requires { ⌜ (length (now out) ≡ 65536) × (state .used ≤ 65536) ⌝ }
-    ensures { λ r. ⌜ r .state .used ≤ 65536 ⌝ }
-{
-    let mut input = io::large_buffer();
-    let got = libc::read(STDIN_FILENO, &mut input);
-    let n = io::count(got, &input);
-    if n == 0 {
-        return Round { state, more: false };
-    }
-    let fed = feed(&input[..n], out, state);
-    Round {
-        state: fed,
-        more: true,
-    }
-}
-
-// All of the input. Nothing says that it ends, so the rounds are counted down from a number that no run uses up.
-fn read_all(out: &mut [u8], state: State) -> State
-    requires { ⌜ (length (now out) ≡ 65536) × (state .used ≤ 65536) ⌝ }
-    ensures { λ r. ⌜ r .used ≤ 65536 ⌝ }
-{
-    let mut s = state;
-    let mut left = u64::MAX;
-    while 0 < left {
-        let round = read_once(out, s);
-        s = round.state;
-        if !round.more {
-            return s;
+    let end = outcome.end;
+    match end {
+        End::Ended => Verdict {
+            status: refused_status(outcome.refused),
+            stop: false,
+        },
+        End::Unread => Verdict {
+            status: 2,
+            stop: false,
+        },
+        End::Unwritten => Verdict {
+            status: 2,
+            stop: true,
+        },
+        End::More => {
+            tell(name);
+            Verdict {
+                status: 2,
+                stop: true,
+            }
         }
-        left -= 1;
     }
-    s
+}
+
+fn answer_input(fd: i32, explain: bool, name: &[u8]) -> Verdict {
+    let outcome = answer_all(fd, explain, name);
+    judge(outcome, name)
+}
+
+fn is_dash(path: &[u8]) -> bool {
+    if path.len() == 1 {
+        return path[0] == b'-';
+    }
+    false
+}
+
+// The file that the argument names.
+fn answer_file(i: usize, explain: bool) -> Verdict {
+    let mut path = io::buffer();
+    let n = os::arg(i, &mut path);
+    if os::errno() != 0 {
+        tell(b"a file's name");
+        return Verdict {
+            status: 2,
+            stop: false,
+        };
+    }
+    if is_dash(&path[..n]) {
+        return answer_input(STDIN_FILENO, explain, b"(standard input)");
+    }
+    let fd = os::open_read(&path[..n]);
+    if fd < 0 {
+        tell(&path[..n]);
+        return Verdict {
+            status: 2,
+            stop: false,
+        };
+    }
+    let verdict = answer_input(fd, explain, &path[..n]);
+    libc::close(fd);
+    verdict
+}
+
+// The larger of two statuses.
+fn worse(a: u8, b: u8) -> u8
+    ensures { λ r. ⌜ r ≡ max a b ⌝ }
+{
+    if a < b { b } else { a }
+}
+
+// The files that the arguments from the third on name, in turn. Where the program does not stop before, each is answered.
+fn answer_files(count: usize, explain: bool) -> Tally
+    ensures { λ r. ⌜ (r .stop ≡ false → 3 ≤ count → 3 + r .files ≡ count) ⌝ }
+{
+    let mut status: u8 = 0;
+    let mut files: usize = 0;
+    let mut i: usize = 3;
+    while i < count {
+        let verdict = answer_file(i, explain);
+        status = worse(status, verdict.status);
+        if verdict.stop {
+            return Tally {
+                status,
+                files,
+                stop: true,
+            };
+        }
+        i += 1;
+        files += 1;
+    }
+    Tally {
+        status,
+        files,
+        stop: false,
+    }
+}
+
+// Writes the status to the descriptor that the first argument names by a digit.
+fn report(status: u8) {
+    let mut text = io::buffer();
+    let n = os::arg(1, &mut text);
+    if n != 1 {
+        return;
+    }
+    let digit = text[0];
+    if digit < b'0' {
+        return;
+    }
+    if b'9' < digit {
+        return;
+    }
+    write_text((digit - b'0') as i32, &[48 + status % 10]);
+}
+
+// Whether the second argument asks for notes.
+fn wants_notes() -> bool {
+    let mut text = io::buffer();
+    let n = os::arg(2, &mut text);
+    if n != 2 {
+        return false;
+    }
+    if text[0] != b'-' {
+        return false;
+    }
+    text[1] == b'e'
 }
 
 fn main() {
-    let mut out = io::large_buffer();
-    let s = read_all(
-        &mut out,
-        State {
-            pending: begin(),
-            used: 0,
-        },
-    );
-    let at = flush(&out, s.used);
-    let end = finish(s.pending, &mut out, at);
-    let written = io::write_all(STDOUT_FILENO, &out[..end]);
-    if !written {
-        os::fail(b"nibharrow ranges");
+    let count = os::arg_count();
+    let explain = wants_notes();
+    if count <= 3 {
+        let verdict = answer_input(STDIN_FILENO, explain, b"(standard input)");
+        report(verdict.status);
+        return;
     }
+    let tally = answer_files(count, explain);
+    report(tally.status);
 }

@@ -35,8 +35,8 @@ use Rattle.text.proofs.StrictLaws.{strict-long, strict-read, strict-gives}
 use Rattle.text.proofs.MeaningLaws.{strict-address}
 use Rattle.blocks.specs.BlockText.{blockText}
 use Rattle.ranges.specs.Ranges.{blocksOf}
-use Rattle.range_text.specs.RangeText.{refusedLine, likeAddress, likeBlock, blockLines, rangeText, readText, piecesText, lineText}
-use Rattle.range_text.specs.LineForm.{space, Free, no-byte, another, ended, refusedText, OfFamily, TwoTexts, Line, too-long, no-space, more-spaces, two-families, first-above-last, range}
+use Rattle.range_text.specs.RangeText.{answeredWith, refusedBy, likeAddress, likeBlock, blockLines, answerRange, answerRead, answerPieces, answerLine, lineText}
+use Rattle.range_text.specs.LineForm.{space, Free, no-byte, another, ended, refusedText, OfFamily, TwoTexts, RangeLine, Line, too-long, no-space, more-spaces, two-families, first-above-last, range}
 use Rattle.range_text.specs.LineForm as form
 use Rattle.range_text.proofs.RangeTextLaws.{like-numbered, like-address, text-apart, text-falling, text-rising, first-refused, second-refused, both-read, line-long, line-pieces}
 
@@ -75,8 +75,8 @@ more-pieces b (x ∷ s) t = go (eqb x b) (splitOn b (s ++ b ∷ t)) (more-pieces
 
 -- ---- the refusal's line
 
-refused-spelt : (e : Refusal) → refusedLine (refusalNumber e) ≡ ended (refusedText e ∷ [])
-unfolding refusedLine ascii numeral
+refused-spelt : (e : Refusal) → refusedBy (refusalNumber e) .text ≡ ended (refusedText e ∷ [])
+unfolding refusedBy ascii numeral
 refused-spelt TextTooLong = refl
 refused-spelt Malformed = refl
 refused-spelt NoRoom = refl
@@ -145,8 +145,8 @@ values-family like (b ∷ bs) h = (like-family like b, like-address like b (h .0
 
 -- ---- from the sentence to the answer
 
-many-pieces : (ps : List (List ℕ)) → 3 ≤ length ps → piecesText ps ≡ refusedLine 2
-unfolding piecesText
+many-pieces : (ps : List (List ℕ)) → 3 ≤ length ps → answerPieces ps ≡ refusedBy 2
+unfolding answerPieces
 many-pieces [] h = refl
 many-pieces (p ∷ []) h = refl
 many-pieces (p ∷ q ∷ []) h = absurd (omega arith)
@@ -156,39 +156,51 @@ some-piece : (b : ℕ) (t : List ℕ) → 1 ≤ length (splitOn b t)
 some-piece b t = rw (split-first b t .1) (omega arith)
 
 module _ {line s t : List ℕ} (w : TwoTexts line s t) where
-  two-texts : lineText line ≡ readText (strictAnswer 0 s) (strictAnswer 0 t)
-  unfolding separated piecesText
+  two-texts : answerLine line ≡ answerRead (strictAnswer 0 s) (strictAnswer 0 t)
+  unfolding separated answerPieces
   two-texts = sym (line-pieces line (w .short) (s ∷ t ∷ []) (ap (splitOn 32) (w .is) ∙ split-separated 32 (s ∷ t ∷ []) (omega arith) (free-lacks (w .before), (free-lacks (w .behind), tt))))
 
-  first-says : (e : Refusal) → strictAnswer 0 s ≡ refuses noAddress e → lineText line ≡ ended (refusedText e ∷ [])
-  first-says e h = two-texts ∙ sym (first-refused (strictAnswer 0 s) (strictAnswer 0 t) e (refusalNumber e) (sym h) refl) ∙ refused-spelt e
+  first-says : (e : Refusal) → strictAnswer 0 s ≡ refuses noAddress e → answerLine line ≡ refusedBy (refusalNumber e)
+  first-says e h = two-texts ∙ sym (first-refused (strictAnswer 0 s) (strictAnswer 0 t) e (refusalNumber e) (sym h) refl)
 
   module _ (a : Address) (h : strictAnswer 0 s ≡ gives a) where
-    second-says : (e : Refusal) → strictAnswer 0 t ≡ refuses noAddress e → lineText line ≡ ended (refusedText e ∷ [])
-    second-says e k = two-texts ∙ ap (λ r. readText r (strictAnswer 0 t)) h ∙ sym (second-refused a (strictAnswer 0 t) e (refusalNumber e) (sym k) refl) ∙ refused-spelt e
+    second-says : (e : Refusal) → strictAnswer 0 t ≡ refuses noAddress e → answerLine line ≡ refusedBy (refusalNumber e)
+    second-says e k = two-texts ∙ ap (λ r. answerRead r (strictAnswer 0 t)) h ∙ sym (second-refused a (strictAnswer 0 t) e (refusalNumber e) (sym k) refl)
 
     module _ (b : Address) (k : strictAnswer 0 t ≡ gives b) where
-      both-say : lineText line ≡ rangeText a b
-      both-say = two-texts ∙ ap (λ r. readText r (strictAnswer 0 t)) h ∙ sym (both-read a b (strictAnswer 0 t) (sym k))
+      both-say : answerLine line ≡ answerRange a b
+      both-say = two-texts ∙ ap (λ r. answerRead r (strictAnswer 0 t)) h ∙ sym (both-read a b (strictAnswer 0 t) (sym k))
 
       pub range-fewest : family a ≡ family b → cover.Fewest (width a) (cover.Range (number a) (number b)) (blocksOf a b)
       range-fewest same = range-is-fewest (width a) (number a) (number b) (rw (width-follows a b same) (address-below b (given-address t b k)))
 
-pub line-answers : {line text : List ℕ} → Line line text → lineText line ≡ text
-unfolding piecesText
-line-answers (too-long {line} h) = sym (line-long line h) ∙ refused-spelt TextTooLong
-line-answers (no-space {line} h f) = sym (line-pieces line h (line ∷ []) (split-lacks 32 line (free-lacks f))) ∙ refused-spelt Malformed
-line-answers (more-spaces s t u h) =
+-- what a sentence says of a line: it is refused by a number, or asks for a range and is answered with blocks
+pub data Says (line text : List ℕ) : Type 0 where
+  refused : (e : Refusal) → answerLine line ≡ refusedBy (refusalNumber e) → text ≡ ended (refusedText e ∷ []) → Says line text
+  answered : RangeLine line → answerLine line ≡ answeredWith text → Says line text
+
+pub line-says : {line text : List ℕ} → Line line text → Says line text
+unfolding answerPieces
+line-says (too-long {line} h) = refused TextTooLong (sym (line-long line h)) refl
+line-says (no-space {line} h f) = refused Malformed (sym (line-pieces line h (line ∷ []) (split-lacks 32 line (free-lacks f)))) refl
+line-says (more-spaces s t u h) =
     let line = s ++ 32 ∷ (t ++ 32 ∷ u) in
-    sym (line-pieces line h (splitOn 32 line) refl)
-    ∙ many-pieces (splitOn 32 line) (omega (arith, more-pieces 32 s (t ++ 32 ∷ u), more-pieces 32 t u, some-piece 32 u))
-    ∙ refused-spelt Malformed
-line-answers (form.first-refused e w h) = first-says w e h
-line-answers (form.second-refused {a} e w h k) = second-says w a h e k
-line-answers (two-families {a} {b} w h k n) = both-say w a h b k ∙ sym (text-apart a b n) ∙ refused-spelt WrongFamily
-line-answers (first-above-last {a} {b} w h k e l) = both-say w a h b k ∙ sym (text-falling a b e l) ∙ refused-spelt FirstAboveLast
-line-answers (range {a} {b} bs w h k e l all few) =
-    both-say w a h b k ∙ sym (text-rising a b e l) ∙ ap (blockLines a) (one-fewest (range-fewest w a h b k e) few) ∙ lines-spelt a bs all
+    let many : 3 ≤ length (splitOn 32 line) = omega (arith, more-pieces 32 s (t ++ 32 ∷ u), more-pieces 32 t u, some-piece 32 u) in
+    refused Malformed (sym (line-pieces line h (splitOn 32 line) refl) ∙ many-pieces (splitOn 32 line) many) refl
+line-says (form.first-refused e w h) = refused e (first-says w e h) refl
+line-says (form.second-refused {a} e w h k) = refused e (second-says w a h e k) refl
+line-says (two-families {a} {b} w h k n) = refused WrongFamily (both-say w a h b k ∙ sym (text-apart a b n)) refl
+line-says (first-above-last {a} {b} w h k e l) = refused FirstAboveLast (both-say w a h b k ∙ sym (text-falling a b e l)) refl
+line-says (range {line} {s} {t} {a} {b} bs w h k e l all few) =
+    answered
+    (record { before = s; behind = t; is = w .is; first = a; last = b; first-read = h; last-read = k; one-family = e; rises = l })
+    (both-say w a h b k ∙ sym (text-rising a b e l) ∙ ap answeredWith (ap (blockLines a) (one-fewest (range-fewest w a h b k e) few) ∙ lines-spelt a bs all))
+
+pub line-answers : {line text : List ℕ} → Line line text → lineText line ≡ text
+line-answers l = elim (line-says l) [
+  | refused e a t ↦ ap (λ x. x .text) a ∙ refused-spelt e ∙ sym t
+  | answered r a ↦ ap (λ x. x .text) a
+]
 
 -- ---- from the line to the sentence
 

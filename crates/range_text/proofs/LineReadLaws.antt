@@ -2,9 +2,9 @@
 use mathlib.Core.Path.{_≡_, refl, sym, ap, ap₂, subst, _∙_}
 use mathlib.Core.Logic.{_⊎_, inl, inr}
 use mathlib.Core.List.{List, [], _∷_, _++_, map}
-use Prim.Native.Nat.{ℕ, suc}
+use Prim.Native.Nat.{ℕ, suc, _+_}
 use native.Mathlib.Omega.{arith}
-use lib.ListN.{length, length-append}
+use lib.ListN.{length, getD, length-append}
 use Rattle.notation.specs.Ascii.{ascii}
 use Rattle.notation.specs.Pieces.{contains, Lacks}
 use Rattle.notation.proofs.SeparatedLaws.{lacks-append}
@@ -12,11 +12,12 @@ use Rattle.cover.specs.Blocks as cover
 use Rattle.address.specs.declared.Address.{Address}
 use Rattle.address.specs.declared.Block.{Block}
 use Rattle.address.specs.declared.Refusal.{Refusal}
-use Rattle.address.specs.declared.Refusal.the-variants.{TextTooLong, Malformed, FirstAboveLast, WrongFamily}
 use Rattle.address.specs.Addresses.{family, width, number}
-use Rattle.address.specs.Answers.{gives}
+use Rattle.address.specs.Answers.{refusalNumber, gives}
 use Rattle.address.specs.Blocks.{numbered}
 use Rattle.address.proofs.AddressLaws.{width-follows}
+use Rattle.address.proofs.AnswerLaws.{number-pos}
+use Rattle.address.proofs.Claims.{one-number}
 use Rattle.digits.specs.Numerals.{digitOf}
 use Rattle.text.specs.Strict.{strictAnswer}
 use Rattle.text.proofs.StrictLaws.{strict-gives}
@@ -25,9 +26,9 @@ use Rattle.blocks.specs.BlockText.{blockText, blockTextAnswer}
 use Rattle.blocks.proofs.BlockTextLaws.{read-lacks}
 use Rattle.blocks.proofs.Claims.{read-back-answer}
 use Rattle.ranges.specs.Ranges.{blocksOf}
-use Rattle.range_text.specs.RangeText.{lineText}
-use Rattle.range_text.specs.LineForm.{space, newline, Free, AllFree, ended, refusedText, OfFamily, TwoTexts, Line, too-long, no-space, more-spaces, first-refused, second-refused, two-families, first-above-last, range, RangeLine, FewestLines}
-use Rattle.range_text.proofs.LineFormLaws.{lacks-free, values, values-numbered, values-family, range-fewest, line-answers}
+use Rattle.range_text.specs.RangeText.{refusedBy, lineText, lineNumber}
+use Rattle.range_text.specs.LineForm.{space, newline, Free, AllFree, ended, refusedText, OfFamily, TwoTexts, Line, range, RangeLine, FewestLines}
+use Rattle.range_text.proofs.LineFormLaws.{lacks-free, values, values-numbered, values-family, range-fewest, Says, refused, answered, line-says, line-answers}
 
 -- ---- the line of a refusal
 
@@ -116,15 +117,7 @@ module _ {line : List ℕ} (r : RangeLine line) where
 -- ---- a range's lines, or a refusal's
 
 pub range-or-refused : {line text : List ℕ} → Line line text → RangeLine line ⊎ ((e : Refusal) × (text ≡ ended (refusedText e ∷ [])))
-range-or-refused (too-long h) = inr (TextTooLong, refl)
-range-or-refused (no-space h f) = inr (Malformed, refl)
-range-or-refused (more-spaces s t u h) = inr (Malformed, refl)
-range-or-refused (first-refused e w h) = inr (e, refl)
-range-or-refused (second-refused e w h k) = inr (e, refl)
-range-or-refused (two-families w h k n) = inr (WrongFamily, refl)
-range-or-refused (first-above-last w h k e l) = inr (FirstAboveLast, refl)
-range-or-refused (range {line} {s} {t} {a} {b} bs w h k e l all few) =
-    inl (record { before = s; behind = t; is = w .is; first = a; last = b; first-read = h; last-read = k; one-family = e; rises = l })
+range-or-refused l = elim (line-says l) [ refused e a t ↦ inr (e, t) | answered r a ↦ inl r ]
 
 -- lines that are read hold no space, and a refusal's does
 lines-lack : (ts : List (List ℕ)) (bs : List Block) → map blockTextAnswer ts ≡ map gives bs → Lacks 32 (ended ts)
@@ -139,3 +132,39 @@ lines-lack (t ∷ ts) (b ∷ bs) e =
 pub not-both : (a b : Address) (text : List ℕ) → FewestLines a b text → (e : Refusal) → text ≡ ended (refusedText e ∷ []) → ⊥
 unfolding contains ascii
 not-both a b text f e h = let l : Lacks 32 (ended (refusedText e ∷ [])) = ap (contains 32) (sym h ∙ f .text-is) ∙ lines-lack (f .lines) (f .blocks) (f .read) in let z : _≡_ {A = ℕ} 0 1 = cc in omega arith
+
+-- ---- the number of a line's refusal
+
+-- a refusal's line tells its number
+refused-number : (n : ℕ) → refusedBy n .number ≡ n
+unfolding refusedBy
+refused-number n = refl
+
+one-refusal : (d e : Refusal) → ended (refusedText d ∷ []) ≡ ended (refusedText e ∷ []) → refusalNumber d ≡ refusalNumber e
+unfolding ascii
+one-refusal d e h = let n : 48 + refusalNumber d ≡ 48 + refusalNumber e = ap (λ t. getD t 8 0) h in omega arith
+
+module _ {line : List ℕ} (s : Says line (lineText line)) where
+  pub number-told : (e : Refusal) → lineNumber line ≡ refusalNumber e → lineText line ≡ ended (refusedText e ∷ [])
+  number-told e n = elim s [
+    | refused d a t ↦ t ∙ ap (λ x. ended (refusedText x ∷ [])) (one-number d e (sym (ap (λ x. x .number) a ∙ refused-number (refusalNumber d)) ∙ n))
+    | answered r a ↦ absurd (omega (arith, number-pos e, ap (λ x. x .number) a, n))
+  ]
+
+  pub told-number : (e : Refusal) → lineText line ≡ ended (refusedText e ∷ []) → lineNumber line ≡ refusalNumber e
+  told-number e h = elim s [
+    | refused d a t ↦ ap (λ x. x .number) a ∙ refused-number (refusalNumber d) ∙ one-refusal d e (sym t ∙ h)
+    | answered r a ↦ absurd (not-both (r .first) (r .last) (lineText line) (fewest-lines r) e h)
+  ]
+
+  pub zero-range : lineNumber line ≡ 0 → RangeLine line
+  zero-range n = elim s [
+    | refused d a t ↦ absurd (omega (arith, number-pos d, ap (λ x. x .number) a, refused-number (refusalNumber d), n))
+    | answered r a ↦ r
+  ]
+
+  pub range-zero : RangeLine line → lineNumber line ≡ 0
+  range-zero r = elim s [
+    | refused d a t ↦ absurd (not-both (r .first) (r .last) (lineText line) (fewest-lines r) d t)
+    | answered q a ↦ ap (λ x. x .number) a
+  ]

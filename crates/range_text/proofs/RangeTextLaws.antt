@@ -36,7 +36,7 @@ use Rattle.records.proofs.Claims.{read-back-answer}
 use Rattle.ranges.specs.Ranges.{blocksOf, rangeRecords, rangeAnswer, rangeLeaves}
 use Rattle.ranges.proofs.RangeLaws.{range-apart, range-falling, range-written}
 use Rattle.ranges.proofs.Claims.{enough-310, enough-4318}
-use Rattle.range_text.specs.RangeText.{refusedLine, likeBlock, blockLines, PutsLines, rangeText, readText, piecesText, lineText}
+use Rattle.range_text.specs.RangeText.{likeBlock, blockLines, PutsLines, PutsAnswer, answeredWith, refusedBy, answerRange, answerRead, answerPieces, answerLine}
 
 -- ---- a block of a family, as a value
 
@@ -121,23 +121,23 @@ walk-on {rest} w h g p q = record { same = puts-length q ∙ puts-length p ∙ w
 -- ---- the text of a range
 
 module _ (first last : Address) where
-  pub text-apart : ¬ (family first ≡ family last) → refusedLine 9 ≡ rangeText first last
-  unfolding rangeText
+  pub text-apart : ¬ (family first ≡ family last) → refusedBy 9 ≡ answerRange first last
+  unfolding answerRange
   text-apart n = rw (ne-eqb (family first) (family last) n)
 
   module _ (same : family first ≡ family last) where
-    pub text-falling : number last < number first → refusedLine 8 ≡ rangeText first last
-    unfolding rangeText
+    pub text-falling : number last < number first → refusedBy 8 ≡ answerRange first last
+    unfolding answerRange
     text-falling h = rw (eq-eqb (family first) (family last) same, lt-ltb (number last) (number first) h)
 
-    pub text-rising : number first ≤ number last → blockLines first (blocksOf first last) ≡ rangeText first last
-    unfolding rangeText
+    pub text-rising : number first ≤ number last → answeredWith (blockLines first (blocksOf first last)) ≡ answerRange first last
+    unfolding answerRange
     text-rising h = rw (eq-eqb (family first) (family last) same, le-ltb (number last) (number first) h)
 
 -- A range is refused, whatever room there is for its records, or rises within one family.
 pub data Kind (first last : Address) : Type 0 where
-  refused : (x : Refusal) → ((old : List ℕ) → rangeAnswer first last old ≡ refuses (0, 0) x) → refusedLine (refusalNumber x) ≡ rangeText first last → Kind first last
-  rising : family first ≡ family last → number first ≤ number last → blockLines first (blocksOf first last) ≡ rangeText first last → Kind first last
+  refused : (x : Refusal) → ((old : List ℕ) → rangeAnswer first last old ≡ refuses (0, 0) x) → refusedBy (refusalNumber x) ≡ answerRange first last → Kind first last
+  rising : family first ≡ family last → number first ≤ number last → answeredWith (blockLines first (blocksOf first last)) ≡ answerRange first last → Kind first last
 
 pub kind : (first last : Address) → Kind first last
 kind first last = elim (ℕ-discrete (family first) (family last)) [
@@ -163,16 +163,16 @@ either-family P four six (V6 hi lo) (V6 h l) is e = six hi lo h l is
 -- the first bytes of the buffer are the records of the range: putting their lines puts its text
 pub record Written (first last : Address) (bytes : ℕ) (left : List ℕ) : Type 0 where
   pub fits : bytes ≤ length left
-  pub lines : {old new : List ℕ} {at next : ℕ} → PutsLines first (take bytes left) old new at next → Puts old new at next (rangeText first last)
+  pub lines : {old new : List ℕ} {at next : ℕ} → PutsLines first (take bytes left) old new at next → PutsAnswer old new at (record { next = next; number = 0 }) (answerRange first last)
 
 module _ (first last : Address) (is : IsAddress last) (old : List ℕ) (room : 4318 ≤ length old) where
   enough : family first ≡ family last → length (rangeRecords first last) ≤ length old
   enough = either-family (λ a b. length (rangeRecords a b) ≤ length old) (λ v w h. omega (arith, enough-310 v w h)) (λ hi lo h l k. omega (arith, enough-4318 hi lo h l k)) first last is
 
   -- 3 is never answered
-  pub range-refused : (x : Refusal) → refuses (0, 0) x ≡ rangeAnswer first last old → refusedLine (refusalNumber x) ≡ rangeText first last
+  pub range-refused : (x : Refusal) → refuses (0, 0) x ≡ rangeAnswer first last old → refusedBy (refusalNumber x) ≡ answerRange first last
   range-refused x e = elim (kind first last) [
-    | refused y a t ↦ ap (λ r. refusedLine (r .number)) (e ∙ a old) ∙ t
+    | refused y a t ↦ ap (λ r. refusedBy (r .number)) (e ∙ a old) ∙ t
     | rising s h t ↦ absurd (omega (arith, number-pos x, ap (λ r. r .number) (e ∙ sym (range-written first last old s h (enough s) .0))))
   ]
 
@@ -187,39 +187,39 @@ module _ (first last : Address) (is : IsAddress last) (old : List ℕ) (room : 4
         let whole : left ≡ records ++ more = l ∙ sym (w .1) in
         let front : take bytes left ≡ records = ap₂ take all whole ∙ take-at records more (length records) refl in
         let rules = range-is-fewest (width first) (number first) (number last) (rw (width-follows first last s) (address-below last is)) .blocks in
-        record { fits = omega (arith, ap length whole, length-append records more); lines = λ p. rw (← t) (p (blocksOf first last) rules front) }
+        record { fits = omega (arith, ap length whole, length-append records more); lines = λ p. rw (← t) (record { puts = p (blocksOf first last) rules front; tells = refl }) }
   ]
 
 -- ---- the text of two answers
 
-pub first-refused : (s t : Answer Address) (e : Refusal) (n : ℕ) → refuses noAddress e ≡ s → n ≡ refusalNumber e → refusedLine n ≡ readText s t
-unfolding readText
+pub first-refused : (s t : Answer Address) (e : Refusal) (n : ℕ) → refuses noAddress e ≡ s → n ≡ refusalNumber e → refusedBy n ≡ answerRead s t
+unfolding answerRead
 first-refused s t e n h k = rw (k, ← h, nonzero e)
 
-pub second-refused : (a : Address) (t : Answer Address) (e : Refusal) (n : ℕ) → refuses noAddress e ≡ t → n ≡ refusalNumber e → refusedLine n ≡ readText (gives a) t
-unfolding readText
+pub second-refused : (a : Address) (t : Answer Address) (e : Refusal) (n : ℕ) → refuses noAddress e ≡ t → n ≡ refusalNumber e → refusedBy n ≡ answerRead (gives a) t
+unfolding answerRead
 second-refused a t e n h k = rw (k, ← h, nonzero e)
 
-pub both-read : (a b : Address) (t : Answer Address) → gives b ≡ t → rangeText a b ≡ readText (gives a) t
-unfolding readText
+pub both-read : (a b : Address) (t : Answer Address) → gives b ≡ t → answerRange a b ≡ answerRead (gives a) t
+unfolding answerRead
 both-read a b t h = rw (← h)
 
 -- ---- the text of a line
 
 module _ (t : List ℕ) where
-  pub line-long : 129 < length t → refusedLine 1 ≡ lineText t
-  unfolding lineText
+  pub line-long : 129 < length t → refusedBy 1 ≡ answerLine t
+  unfolding answerLine
   line-long h = rw (lt-ltb 129 (length t) h)
 
   module _ (short : length t ≤ 129) where
-    pub line-pieces : (ps : List (List ℕ)) → splitOn 32 t ≡ ps → piecesText ps ≡ lineText t
-    unfolding lineText
+    pub line-pieces : (ps : List (List ℕ)) → splitOn 32 t ≡ ps → answerPieces ps ≡ answerLine t
+    unfolding answerLine
     line-pieces ps e = rw (le-ltb 129 (length t) short, e)
 
     module _ (i : ℕ) (at : i ≡ indexOf 32 t) where
       -- no space
-      pub line-none : length t ≤ i → refusedLine 2 ≡ lineText t
-      unfolding piecesText
+      pub line-none : length t ≤ i → refusedBy 2 ≡ answerLine t
+      unfolding answerPieces
       line-none h = line-pieces (t ∷ []) (split-last 32 t (omega arith))
 
       module _ (h : i < length t) (j : ℕ) (there : j ≡ indexOf 32 (tail (i + 1) t)) where
@@ -227,14 +227,14 @@ module _ (t : List ℕ) where
         line-first = rw (to-end (i + 1) t, add-one i, at) (split-found 32 t (omega arith))
 
         -- two spaces or more
-        pub line-more : j < length (tail (i + 1) t) → refusedLine 2 ≡ lineText t
-        unfolding piecesText
+        pub line-more : j < length (tail (i + 1) t) → refusedBy 2 ≡ answerLine t
+        unfolding answerPieces
         line-more l =
             let r = tail (i + 1) t in
             let s = split-first 32 (drop (suc (indexOf 32 r)) r) in
             line-pieces _ (line-first ∙ ap (λ ps. take i t ∷ ps) (split-found 32 r (omega arith) ∙ ap (λ ps. take (indexOf 32 r) r ∷ ps) (s .1)))
 
         -- one space
-        pub line-two : length (tail (i + 1) t) ≤ j → readText (strictAnswer 0 (take i t)) (strictAnswer 0 (tail (i + 1) t)) ≡ lineText t
-        unfolding piecesText
+        pub line-two : length (tail (i + 1) t) ≤ j → answerRead (strictAnswer 0 (take i t)) (strictAnswer 0 (tail (i + 1) t)) ≡ answerLine t
+        unfolding answerPieces
         line-two l = line-pieces (take i t ∷ tail (i + 1) t ∷ []) (line-first ∙ ap (λ ps. take i t ∷ ps) (split-last 32 (tail (i + 1) t) (omega arith)))

@@ -1,34 +1,43 @@
 -- `range_lines::finish` meets its contract. Assumes nothing.
-use mathlib.Core.Path.{_≡_}
-use mathlib.Core.List.{append-nil}
+use mathlib.Core.Path.{sym, _∙_}
 use borrow.Author.Needs.{needs}
-use lib.ListN.{length}
-use Rattle.output.proofs.PlacingLaws.{puts-none}
-use Rattle.range_lines.specs.Lines.{pendingText}
-use Rattle.range_lines.proofs.LinesLaws.{none-held, some-held, lines-none, lines-last}
+use borrow.Author.Tests.{not-true, not-false}
+use Rattle.range_lines.proofs.UnderwayLaws.{none-closes, some-closes}
 use Rattle.range_lines.proofs.finish.Statement.{statement}
 use Rattle.range_lines.proofs.finish.Tie as tie
 
+is-begun-requires : tie.Need-is-begun-requires
+is-begun-requires c κs = search needs
+
 returns : tie.Need-returns
-returns c =
-    let p = c .before .before .before .args .pending in
-    rw (none-held (p .len) (p .bytes) (c .if1 .taken), lines-none) (puts-none _ _)
+returns c = none-closes _ _ _ _ _ (sym (c .before .is-begun .ensures) ∙ not-true _ (c .if1 .taken))
 
-slice-aggregate-put-line : tie.Need-slice-aggregate-put-line
-slice-aggregate-put-line c = search needs
+slice-aggregate-feed : tie.Need-slice-aggregate-feed
+slice-aggregate-feed c = search needs
 
-put-line-requires : tie.Need-put-line-requires
-put-line-requires c κs = search needs
+feed-requires : tie.Need-feed-requires
+feed-requires c κs = search needs
 
 same-length : tie.Need-same-length
 same-length c = search needs
 
+same-length-2 : tie.Need-same-length-2
+same-length-2 c = search needs
+
 returns-2 : tie.Need-returns-2
 returns-2 c =
-    let p = c .before .before .before .before .before .before .before .before .args .pending in
-    let e : length (p .bytes) ≡ 130 = search needs in
-    rw (lines-last (pendingText p) (some-held (p .len) (p .bytes) e (c .before .before .before .before .before .if1 .left)), ← append-nil (pendingText p)) (c .before .before .put-line .ensures)
+    let f = c .before .before .before .before in
+    let z = f .before .before .before .before in
+    some-closes _ _ _ (sym (z .before .is-begun .ensures) ∙ not-false _ (z .if1 .left)) (f .feed .ensures)
 
 pub finish-spec : {M : Type 1} → statement M
 finish-spec =
-    tie.close (tie.spec returns slice-aggregate-put-line put-line-requires same-length returns-2)
+    tie.close
+    (tie.spec
+    is-begun-requires
+    returns
+    slice-aggregate-feed
+    feed-requires
+    same-length
+    same-length-2
+    returns-2)

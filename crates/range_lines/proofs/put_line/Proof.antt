@@ -4,7 +4,7 @@ use native.Mathlib.Omega.{arith}
 use borrow.Author.Needs.{needs}
 use lib.ListN.{length}
 use lib.Seq.{length-take-le}
-use Rattle.range_lines.proofs.LinesLaws.{none-held, line-full, line-held}
+use Rattle.range_lines.proofs.LineLaws.{none-held, line-full, line-held}
 use Rattle.range_lines.proofs.put_line.Statement.{statement}
 use Rattle.range_lines.proofs.put_line.Tie as tie
 

@@ -1,0 +1,2 @@
+-- Runs: what the loops of the range program keep.
+pub mod Runs
