@@ -1,9 +1,9 @@
 //! Compares the library with a second implementation of its rules, with the C library of the
 //! machine and with `std::net`.
 //!
-//! `compare [--seed N] [--count N] [--program PATH]`: the seed is the clock's unless given; the
-//! sweeps always run, and random calls follow until there are `count` comparisons; the range
-//! program at the path is compared as well.
+//! `compare [--seed N] [--count N] [--program PATH] [--script PATH]`: the seed is the clock's unless
+//! given; the sweeps always run, and random calls follow until there are `count` comparisons; the
+//! range program is compared as well, by itself and by the script that runs it.
 
 mod case;
 mod clib;
@@ -21,6 +21,7 @@ mod sweeps;
 
 use case::Case;
 use judge::Judge;
+use program::Kind;
 use run::Run;
 use std::process::ExitCode;
 use std::time::{Instant, SystemTime, UNIX_EPOCH};
@@ -31,6 +32,7 @@ struct Options {
     seed: u64,
     count: u64,
     program: Option<String>,
+    script: Option<String>,
 }
 
 fn options() -> Result<Options, String> {
@@ -41,6 +43,7 @@ fn options() -> Result<Options, String> {
         seed: clock,
         count: DEFAULT_COUNT,
         program: None,
+        script: None,
     };
     let mut arguments = std::env::args().skip(1);
     while let Some(name) = arguments.next() {
@@ -54,9 +57,10 @@ fn options() -> Result<Options, String> {
             "--seed" => options.seed = number()?,
             "--count" => options.count = number()?,
             "--program" => options.program = Some(value),
+            "--script" => options.script = Some(value),
             _ => {
                 return Err(format!(
-                    "{name} is unknown; known are --seed N, --count N and --program PATH"
+                    "{name} is unknown; known are --seed N, --count N, --program PATH and --script PATH"
                 ))
             }
         }
@@ -85,8 +89,12 @@ fn main() -> ExitCode {
         run.judge.compared - swept
     );
     run.report(options.count >= DEFAULT_COUNT);
-    if let Some(path) = &options.program {
-        if let Err(error) = program::compare(&mut run.judge, path) {
+    for (kind, path) in [
+        (Kind::Program, &options.program),
+        (Kind::Script, &options.script),
+    ] {
+        let Some(path) = path else { continue };
+        if let Err(error) = program::compare(&mut run.judge, kind, path) {
             run.judge.fail(&format!("{path} cannot be run: {error}"));
         }
     }

@@ -1,12 +1,14 @@
-//! The range program, run on generated standard input.
+//! The range program, run on generated standard input, by itself and by the script.
 
-use crate::case::Shown;
+use crate::case::{Shown, REFUSAL_TEXT_ROOM};
 use crate::generate::{any_bytes, damage, number, octets, strict};
 use crate::judge::Judge;
 use crate::random::Random;
 use crate::rules;
+use nibharrow::exact;
 use std::collections::BTreeMap;
-use std::io::{self, Read, Write};
+use std::fmt;
+use std::io::{self, Write};
 use std::process::{Command, Stdio};
 use std::thread;
 
@@ -33,8 +35,25 @@ const FIXED: [&str; 12] = [
     "1.2.3.4 1.2.3.4\n\0\n1.2.3.4 1.2.3.4",
 ];
 
-/// Runs the program again and again and compares its whole output with that of the rules.
-pub fn compare(judge: &mut Judge, path: &str) -> io::Result<()> {
+/// What is run: the program, or the script, which ends with the program's status and may have each
+/// refused line told on standard error.
+#[derive(Clone, Copy, PartialEq)]
+pub enum Kind {
+    Program,
+    Script,
+}
+
+/// What a run wrote to standard output and to standard error, and its status unless it was killed.
+#[derive(PartialEq)]
+struct Ended {
+    output: Vec<u8>,
+    error: Vec<u8>,
+    status: Option<i32>,
+}
+
+/// Runs the program or the script again and again, and compares all that it writes, and its status,
+/// with those of the rules.
+pub fn compare(judge: &mut Judge, kind: Kind, path: &str) -> io::Result<()> {
     let mut outcomes = BTreeMap::new();
     let mut lines = 0;
     let mut inputs: Vec<Vec<u8>> = FIXED
@@ -53,30 +72,70 @@ pub fn compare(judge: &mut Judge, path: &str) -> io::Result<()> {
             lines += 1;
             *outcomes.entry(outcome(line)).or_default() += 1;
         }
-        let expected = rules::ranges_program(&input);
-        let (output, ended) = run(&mut judge.random, path, &input)?;
-        if output != expected || !ended {
-            judge.fail(&first_difference(&input, &output, &expected));
+        let explain = kind == Kind::Script && judge.random.percent(50);
+        let arguments: &[&str] = match (kind, explain) {
+            (Kind::Program, _) => &[],
+            (Kind::Script, false) => &["ranges"],
+            (Kind::Script, true) => &["ranges", "-e"],
+        };
+        let expected = expected(kind, explain, &input);
+        let ended = run(&mut judge.random, path, arguments, &input)?;
+        if ended != expected {
+            judge.fail(&first_difference(kind, &input, &ended, &expected));
         }
     }
-    report(judge, &outcomes, runs, lines);
+    report(judge, kind, &outcomes, runs, lines);
     Ok(())
 }
 
-fn report(judge: &mut Judge, outcomes: &BTreeMap<u32, u64>, runs: usize, lines: u64) {
+/// What the rules say of a run. The status of the script is 1 where a line is refused; the program
+/// has no exit status of its own.
+fn expected(kind: Kind, explain: bool, input: &[u8]) -> Ended {
+    let refused = rules::refused_lines(input);
+    let status = i32::from(kind == Kind::Script && !refused.is_empty());
+    let told = refused.iter().filter(|_| explain);
+    Ended {
+        output: rules::ranges_program(input),
+        error: told
+            .flat_map(|&(line, refusal)| note(line, refusal))
+            .collect(),
+        status: Some(status),
+    }
+}
+
+/// What is told of a refused line: `FILE:LINE: refused N: WORDS`, with the words of the library.
+fn note(line: usize, refusal: u32) -> Vec<u8> {
+    let mut words = [0; REFUSAL_TEXT_ROOM];
+    let length = exact::refusal_text(refusal, &mut words).bytes;
+    let mut note = format!("(standard input):{line}: refused {refusal}: ").into_bytes();
+    note.extend(&words[..length]);
+    note.push(b'\n');
+    note
+}
+
+impl fmt::Display for Kind {
+    fn fmt(&self, f: &mut fmt::Formatter<'_>) -> fmt::Result {
+        f.write_str(match self {
+            Kind::Program => "range program",
+            Kind::Script => "range program by the script",
+        })
+    }
+}
+
+fn report(judge: &mut Judge, kind: Kind, outcomes: &BTreeMap<u32, u64>, runs: usize, lines: u64) {
     let count = |outcome| outcomes.get(&outcome).copied().unwrap_or(0);
     let refused: Vec<String> = OUTCOMES[1..]
         .iter()
         .map(|&refusal| format!("{refusal}: {}", count(refusal)))
         .collect();
     println!(
-        "range program: {runs} runs, {lines} lines, {} accepted, refused {}",
+        "{kind}: {runs} runs, {lines} lines, {} accepted, refused {}",
         count(0),
         refused.join(", ")
     );
     for outcome in OUTCOMES {
         judge.expect(count(outcome) > 0, || {
-            format!("no line of the range program with outcome {outcome}")
+            format!("no line of the {kind} with outcome {outcome}")
         });
     }
 }
@@ -90,58 +149,69 @@ fn outcome(line: &[u8]) -> u32 {
     refusal.map_or(0, |digit| u32::from(digit - b'0'))
 }
 
-/// The program's whole output, and whether it ended by itself. Its input comes in pieces of random
-/// size.
-fn run(random: &mut Random, path: &str, input: &[u8]) -> io::Result<(Vec<u8>, bool)> {
+/// Runs the program or the script. Its input comes in pieces of random size.
+fn run(random: &mut Random, path: &str, arguments: &[&str], input: &[u8]) -> io::Result<Ended> {
     let mut child = Command::new(path)
+        .args(arguments)
         .stdin(Stdio::piped())
         .stdout(Stdio::piped())
+        .stderr(Stdio::piped())
         .spawn()?;
-    let (mut stdin, mut stdout) = (
-        child.stdin.take().expect("piped"),
-        child.stdout.take().expect("piped"),
-    );
+    let mut stdin = child.stdin.take().expect("piped");
     let piece = 1 + random.below(if input.len() < 2000 { 100 } else { 20_000 });
-    let mut output = Vec::new();
-    thread::scope(|scope| {
+    let ended = thread::scope(|scope| {
         // A program that stops reading early is found out by its output.
         scope.spawn(move || {
             input
                 .chunks(piece)
                 .try_for_each(|piece| stdin.write_all(piece))
         });
-        stdout.read_to_end(&mut output)
+        child.wait_with_output()
     })?;
-    Ok((output, child.wait()?.code().is_some()))
+    Ok(Ended {
+        output: ended.stdout,
+        error: ended.stderr,
+        status: ended.status.code(),
+    })
 }
 
-/// The first line of input whose answer is not the expected one.
-fn first_difference(input: &[u8], output: &[u8], expected: &[u8]) -> String {
-    let same = output
-        .iter()
-        .zip(expected)
-        .take_while(|(one, other)| one == other)
-        .count();
+/// The first line of input whose answer is not the expected one, and what was told.
+fn first_difference(kind: Kind, input: &[u8], ended: &Ended, expected: &Ended) -> String {
+    let same = same_start(&ended.output, &expected.output);
+    let told = same_start(&ended.error, &expected.error);
     let mut written = 0;
     let guilty = input.split_inclusive(|&byte| byte == b'\n').find(|line| {
         written += rules::ranges_program(line).len();
         written > same
     });
-    let around = |text: &[u8]| {
-        let rest = &text[same.saturating_sub(40).min(text.len())..];
-        Shown(&rest[..rest.len().min(120)]).to_string()
-    };
     let line = guilty.unwrap_or(b"(behind the last line)");
     let lines = [
-        format!(
-            "range program on {} bytes, at output byte {same}",
-            input.len()
-        ),
+        format!("{kind} on {} bytes, at output byte {same}", input.len()),
         format!("line {}", Shown(&line[..line.len().min(300)])),
-        format!("program {}", around(output)),
-        format!("rules   {}", around(expected)),
+        format!("program {}", around(&ended.output, same)),
+        format!("rules   {}", around(&expected.output, same)),
+        format!("program told {}", around(&ended.error, told)),
+        format!("rules   tell {}", around(&expected.error, told)),
+        format!(
+            "status {:?}, by the rules {:?}",
+            ended.status, expected.status
+        ),
     ];
     lines.join("\n  ")
+}
+
+/// How many bytes are the same from the start.
+fn same_start(one: &[u8], other: &[u8]) -> usize {
+    one.iter()
+        .zip(other)
+        .take_while(|(one, other)| one == other)
+        .count()
+}
+
+/// Some of the text around the byte.
+fn around(text: &[u8], byte: usize) -> String {
+    let rest = &text[byte.saturating_sub(40).min(text.len())..];
+    Shown(&rest[..rest.len().min(120)]).to_string()
 }
 
 /// Lines of every sort; the last one may lack its newline.

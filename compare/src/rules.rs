@@ -125,12 +125,7 @@ pub fn range_blocks(first: &[u8], last: &[u8], out: &mut [u8]) -> Result<(usize,
 /// The range program: what it writes to standard output, given the whole of standard input.
 pub fn ranges_program(input: &[u8]) -> Vec<u8> {
     let mut output = Vec::new();
-    let mut lines: Vec<&[u8]> = input.split(|&byte| byte == b'\n').collect();
-    // What follows the last newline is a line only if there is something.
-    if lines.last().is_some_and(|line| line.is_empty()) {
-        lines.pop();
-    }
-    for line in lines {
+    for line in lines(input) {
         match range_of_line(line) {
             Ok(blocks) => {
                 for (address, length) in blocks {
@@ -142,6 +137,26 @@ pub fn ranges_program(input: &[u8]) -> Vec<u8> {
         }
     }
     output
+}
+
+/// The lines of an input that the range program refuses, counted from 1, each with its refusal.
+pub fn refused_lines(input: &[u8]) -> Vec<(usize, u32)> {
+    let refusals = lines(input)
+        .into_iter()
+        .map(|line| range_of_line(line).err());
+    (1..)
+        .zip(refusals)
+        .filter_map(|(line, refusal)| Some((line, refusal?)))
+        .collect()
+}
+
+fn lines(input: &[u8]) -> Vec<&[u8]> {
+    let mut lines: Vec<&[u8]> = input.split(|&byte| byte == b'\n').collect();
+    // What follows the last newline is a line only if there is something.
+    if lines.last().is_some_and(|line| line.is_empty()) {
+        lines.pop();
+    }
+    lines
 }
 
 fn range_of_line(line: &[u8]) -> Result<Vec<(IpAddr, u32)>, u32> {
@@ -383,6 +398,11 @@ mod tests {
         assert_eq!(ranges_program(&[b'1'; 130]), b"refused 1\n");
         let long_first = format!("{} 1.1.1.1", "1".repeat(65));
         assert_eq!(ranges_program(long_first.as_bytes()), b"refused 1\n");
+        assert_eq!(
+            refused_lines(b"::2 ::1\n::1 ::1\n\nx"),
+            [(1, 8), (3, 2), (4, 2)]
+        );
+        assert_eq!(refused_lines(b"::1 ::1\n"), []);
         let malformed_before_long = format!("x {}", "1".repeat(65));
         assert_eq!(
             ranges_program(malformed_before_long.as_bytes()),
