@@ -322,16 +322,14 @@ fn name_that_is_too_long_is_told() {
     let scratch = scratch("long_name");
     scratch.file("good", GOOD);
     let longest = "n".repeat(4096);
-    scratch.sh(&format!("nibharrow ranges {longest} good")).is(
-        GOOD_ANSWER,
-        &format!("nibharrow: {longest}: File name too long\n"),
-        2,
-    );
-    scratch.sh(&format!("nibharrow ranges n{longest} good")).is(
-        GOOD_ANSWER,
-        "nibharrow: a file's name: File name too long\n",
-        2,
-    );
+    let told = format!("nibharrow: {longest}: File name too long\n");
+    scratch
+        .sh(&format!("nibharrow ranges {longest} good"))
+        .is(GOOD_ANSWER, &told, 2);
+    // of a longer name the first bytes are told
+    scratch
+        .sh(&format!("nibharrow ranges {longest}m good"))
+        .is(GOOD_ANSWER, &told, 2);
 }
 
 #[test]

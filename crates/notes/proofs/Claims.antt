@@ -3,10 +3,11 @@ use mathlib.Core.Path.{_≡_, refl}
 use mathlib.Core.List.{List, [], _∷_, _++_}
 use Prim.Native.Nat.{ℕ, _≤_, _<_}
 use native.Mathlib.Omega.{arith}
-use lib.ListN.{length}
+use lib.ListN.{length, take}
+use lib.Seq.{take-at}
 use Rattle.notation.specs.Ascii.{ascii}
 use Rattle.digits.specs.Numerals.{numeral}
-use Rattle.words.specs.Words.{refusalWords}
+use Rattle.words.specs.Words.{refusalWords, wordsText}
 use Rattle.notes.specs.Notes.{noteText, noteRoom}
 use Rattle.notes.proofs.NoteLaws as laws
 
@@ -20,7 +21,19 @@ pub one-note : (name : List ℕ) (line line′ n n′ : ℕ) → line < 18446744
     → noteText name line n ≡ noteText name line′ n′ → (line ≡ line′) × (n ≡ n′)
 one-note name line line′ n n′ h h′ = laws.one-note name line line′ n n′ (omega arith) (omega arith)
 
--- An example: line 12 of a file is refused by 8.
+-- It begins with the file's name, whatever that is, and ends with the words of its number, on a line.
+pub note-begins : (name : List ℕ) (line n : ℕ) → take (length name) (noteText name line n) ≡ name
+unfolding noteText
+note-begins name line n = take-at name _ (length name) refl
+
+pub note-ends : (name : List ℕ) (line n : ℕ) → (front : List ℕ) × (noteText name line n ≡ front ++ (ascii ": " ++ (wordsText n ++ 10 ∷ [])))
+note-ends = laws.note-ends
+
+-- Examples: lines that are refused by 8 and by 9.
 pub note-of-8 : noteText (ascii "rooms.txt") 12 8 ≡ ascii "rooms.txt:12: refused 8: the first address is above the last" ++ 10 ∷ []
 unfolding noteText ascii numeral refusalWords
 note-of-8 = refl
+
+pub note-of-9 : noteText (ascii "strongrooms/40") 7 9 ≡ ascii "strongrooms/40:7: refused 9: the address family is unknown, mixed or not meant here" ++ 10 ∷ []
+unfolding noteText ascii numeral refusalWords
+note-of-9 = refl

@@ -1,7 +1,6 @@
 -- The words of a note, how long it is, and what it tells. Assumes nothing.
-use mathlib.Core.Path.{_≡_, refl, sym, ap, subst, _∙_}
-use mathlib.Core.Bool.{false}
-use mathlib.Core.List.{List, [], _∷_, _++_, append-cancel-left}
+use mathlib.Core.Path.{_≡_, refl, sym, ap, _∙_}
+use mathlib.Core.List.{List, [], _∷_, _++_, append-assoc, append-cancel-left}
 use mathlib.Core.Option.{Option, some, none}
 use Prim.Native.Nat.{ℕ, suc, _≤_, _<_, _^_}
 use native.Mathlib.Omega.{arith}
@@ -82,3 +81,10 @@ one-note name line line′ n n′ h h′ l l′ e =
     let first = told 20 (lit≤ tt) line line′ h h′ _ _ (append-cancel-left (ascii ":") _ _ (append-cancel-left name _ _ e)) in
     let second = told 3 (lit≤ tt) n n′ l l′ _ _ (append-cancel-left (ascii " refused ") _ _ (first .1)) in
     (first .0, second .0)
+
+-- ---- its end
+
+pub note-ends : (name : List ℕ) (line n : ℕ) → (front : List ℕ) × (noteText name line n ≡ front ++ (ascii ": " ++ (wordsText n ++ 10 ∷ [])))
+unfolding noteText
+note-ends name line n =
+    (name ++ (ascii ":" ++ (numeral 10 20 line ++ (ascii ": refused " ++ decimal n))), simp append-assoc)

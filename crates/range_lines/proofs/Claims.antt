@@ -17,7 +17,7 @@ use Rattle.range_text.proofs.LineReadLaws.{line-free}
 use Rattle.range_lines.specs.declared.Reader.{Reader}
 use Rattle.range_lines.specs.declared.Fed.{Fed}
 use Rattle.range_lines.specs.Lines.{linesOf, programText, Report, followed, report}
-use Rattle.range_lines.specs.Feeding.{placeOf, atStart, noteSpace, fed, Feeds, Session}
+use Rattle.range_lines.specs.Feeding.{placeOf, atStart, fed, Feeds, Session, Called}
 use Rattle.range_lines.specs.ProgramForm.{Program, no-input, last, first, Told, AllRanges}
 use Rattle.range_lines.proofs.LineLaws as lines
 use Rattle.range_lines.proofs.SessionLaws as session
@@ -119,17 +119,18 @@ module _ {explain : Bool} {name : List ℕ} {s : Reader} {piece out outAfter not
   nothing-cut = (session.answers-held explain name f .1, session.told-held explain name f .1, puts-behind (f .answers), puts-behind (f .told))
 
   -- It stops early only where another answer, or another note, might have no room behind what is put,
-  pub stops-for-room : (r .taken ≡ length piece) ⊎ ((length out < r .next + 11176) ⊎ (length notes < r .noted + noteSpace explain name))
+  pub stops-for-room : (r .taken ≡ length piece) ⊎ ((length out < r .next + 11176) ⊎ ((explain ≡ true) × (length notes < r .noted + (length name + 91))))
   stops-for-room = session.stops explain name f
 
   -- and with room for one of each it takes a line, or all.
-  pub takes-a-line : 11176 ≤ length out → noteSpace explain name ≤ length notes → 0 < length piece → 0 < r .taken
+  pub takes-a-line : 11176 ≤ length out → (explain ≡ true → length name + 91 ≤ length notes) → 0 < length piece → 0 < r .taken
   takes-a-line = session.goes-on explain name f
 
 -- ---- the input
 
 -- Wherever the input is cut into pieces, and wherever a call stops for room: what all the calls leave in their buffers, end to end, is what the
--- lines of the whole input give. `start` answers a reader at the start, every call of `feed` is one of `feeds`, and one of `finish` is `ends`.
+-- lines of the whole input give. `start` answers a reader at the start, every call of `feed` is one of `feeds`, and one of `finish` that takes what
+-- it is to take is one of `ends`.
 pub whole-input : {explain : Bool} {name : List ℕ} {s : Reader} {input : List ℕ} {all : Report} → Session explain name s input all → placeOf s ≡ atStart
     → all ≡ report explain name 1 (linesOf input)
 whole-input {explain} {name} c e = session.whole-session explain name c e
@@ -141,3 +142,8 @@ unfolding programText
 whole-text {explain} {name} {input = input} {all} c e =
     let t : all .text ≡ programText input = ap (λ r. r .text) (whole-input c e) ∙ answers-alone explain name 1 (linesOf input) in
     (t, program-exactly input (all .text) .0 (sym t))
+
+-- Every input comes to its end, from any reader, by calls that have room for an answer and a note.
+pub every-input-ends : (explain : Bool) (name : List ℕ) → ((s : Reader) (piece : List ℕ) → Called explain name s piece)
+    → (s : Reader) (input : List ℕ) → (all : Report) × Session explain name s input all
+every-input-ends explain name call s input = session.comes explain name call (length input) s input (omega arith)

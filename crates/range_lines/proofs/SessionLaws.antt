@@ -1,21 +1,30 @@
 -- The calls on an input, one after the other. Assumes nothing.
-use mathlib.Core.Path.{_≡_, refl, sym, ap, ap₂, _∙_}
+use mathlib.Core.Path.{_≡_, refl, sym, ap, ap₂, subst, _∙_}
 use mathlib.Core.Logic.{_⊎_, inl, inr}
 use mathlib.Core.Bool.{Bool, true, false, _||_}
 use mathlib.Core.List.{List, [], _∷_, _++_, append-nil}
-use Prim.Native.Nat.{ℕ, _+_, _≤_, _<_}
+use Prim.Native.Nat.{ℕ, zero, suc, _+_, _≤_, _<_}
 use native.Mathlib.Omega.{arith}
-use lib.ListN.{length, take, drop, length-append}
+use lib.ListN.{length, take, drop, length-append, length-drop}
 use lib.Seq.{drop-at}
 use Rattle.notation.specs.Pieces.{contains, indexOf, Lacks}
-use Rattle.output.proofs.PlacingLaws.{puts-whole, puts-length}
+use Rattle.output.proofs.PlacingLaws.{puts-whole}
 use Rattle.range_text.specs.RangeText.{answerLine}
 use Rattle.range_lines.specs.declared.Reader.{Reader}
 use Rattle.range_lines.specs.declared.Fed.{Fed}
 use Rattle.range_lines.specs.Lines.{linesOf, Report, followed, lineReport, report}
-use Rattle.range_lines.specs.Feeding.{Place, placeOf, atStart, behindLine, Feeding, noteSpace, hasRoom, fed, Feeds, closing, Session, feeds, ends}
+use Rattle.range_lines.specs.Feeding.{Place, placeOf, atStart, behindLine, Feeding, noteSpace, hasRoom, fed, Feeds, closing, Session, feeds, ends, Called}
 use Rattle.range_lines.proofs.LineLaws.{nothing-lacks, no-lines, line-last, still}
 use Rattle.range_lines.proofs.FedLaws.{both-room, Gives, fed-gives, fed-last, fed-full, fed-line}
+
+-- room for a note, where notes are wanted
+note-fits : (explain : Bool) (name : List ℕ) {n : ℕ} → (explain ≡ true → length name + 91 ≤ n) → noteSpace explain name ≤ n
+note-fits true name h = h refl
+note-fits false name h = omega arith
+
+note-short : (explain : Bool) (name : List ℕ) {n k : ℕ} → (n < k + noteSpace explain name) × (k ≤ n) → (explain ≡ true) × (n < k + (length name + 91))
+note-short true name h = (refl, h .0)
+note-short false name h = absurd (omega (arith, h .0, h .1))
 
 module _ (explain : Bool) (name : List ℕ) where
   -- ---- what a call leaves
@@ -39,21 +48,17 @@ module _ (explain : Bool) (name : List ℕ) where
         ap (drop (r .taken)) (g .whole)
         ∙ drop-at (g .front) (result .rest) (r .taken) (omega (arith, f .taken, ap length (g .whole), length-append (g .front) (result .rest)))
 
-    -- its answer lies within the buffers and the piece
-    pub within : (r .next ≤ length outAfter) × (r .noted ≤ length notesAfter) × (r .taken ≤ length piece)
-    within = (omega (arith, f .answers .index, puts-length (f .answers)), omega (arith, f .told .index, puts-length (f .told)), omega (arith, f .taken))
-
-    pub stops : (r .taken ≡ length piece) ⊎ ((length out < r .next + 11176) ⊎ (length notes < r .noted + noteSpace explain name))
+    pub stops : (r .taken ≡ length piece) ⊎ ((length out < r .next + 11176) ⊎ ((explain ≡ true) × (length notes < r .noted + (length name + 91))))
     stops = elim (given .stops) [
       | inl none ↦ inl (omega (arith, f .taken, ap length none))
       | inr (inl short) ↦ inr (inl (omega (arith, short, answers-held .0)))
-      | inr (inr short) ↦ inr (inr (omega (arith, short, told-held .0)))
+      | inr (inr short) ↦ inr (inr (note-short explain name (omega (arith, short, told-held .0), omega (arith, told-held .0, given .notes-fit))))
     ]
 
-    pub goes-on : 11176 ≤ length out → noteSpace explain name ≤ length notes → 0 < length piece → 0 < r .taken
+    pub goes-on : 11176 ≤ length out → (explain ≡ true → length name + 91 ≤ length notes) → 0 < length piece → 0 < r .taken
     goes-on h k some =
         let g = given in
-        let front = g .goes-on (both-room explain name (length out) (length notes) h k) some in
+        let front = g .goes-on (both-room explain name (length out) (length notes) h (note-fits explain name k)) some in
         omega (arith, front, f .taken, ap length (g .whole), length-append (g .front) (result .rest))
 
   -- ---- the end of the input
@@ -81,6 +86,14 @@ module _ (explain : Bool) (name : List ℕ) where
           ∙ sym (ap (report explain name k) (line-last b all (omega arith)))
       go false h = absurd (omega (arith, none, ap (λ f. length (f .rest)) (fed-full explain name free spare s (10 ∷ []) (omega arith) h)))
 
+  -- with room for an answer and a note it is taken
+  ends-with-room : {s : Reader} (c : Called explain name s (closing (placeOf s .begun))) → c .answer .taken ≡ length (closing (placeOf s .begun))
+  ends-with-room {s} c = go (placeOf s .begun) (goes-on (c .does) (c .room) (c .note-room)) (omega (arith, c .does .taken))
+    where
+      go : (b : List ℕ) → (0 < length (closing b) → 0 < c .answer .taken) → c .answer .taken ≤ length (closing b) → c .answer .taken ≡ length (closing b)
+      go [] p q = omega (arith, q)
+      go (x ∷ b) p q = let o : 0 < length (closing (x ∷ b)) = omega arith in omega (arith, p o, q)
+
   -- ---- all calls
 
   pub session-law : {s : Reader} {input : List ℕ} {all : Report} → Session explain name s input all → Lacks 10 (placeOf s .begun) → all ≡ still explain name (placeOf s) input
@@ -102,3 +115,22 @@ module _ (explain : Bool) (name : List ℕ) where
 
   pub whole-session : {s : Reader} {input : List ℕ} {all : Report} → Session explain name s input all → placeOf s ≡ atStart → all ≡ report explain name 1 (linesOf input)
   whole-session {input = input} c e = session-law c (ap (λ p. contains 10 (p .begun)) e ∙ nothing-lacks 10) ∙ ap (λ p. still explain name p input) e
+
+  -- ---- calls with room come to an end
+
+  module _ (call : (s : Reader) (piece : List ℕ) → Called explain name s piece) where
+    last-call : (s : Reader) → (all : Report) × Session explain name s [] all
+    last-call s = let c = call s (closing (placeOf s .begun)) in (_, ends (c .does) (ends-with-room c))
+
+    pub comes : (n : ℕ) (s : Reader) (input : List ℕ) → length input ≤ n → (all : Report) × Session explain name s input all
+    comes zero s [] h = last-call s
+    comes zero s (x ∷ t) h = absurd (omega arith)
+    comes (suc n) s [] h = last-call s
+    comes (suc n) s (x ∷ t) h =
+        let c = call s (x ∷ t) in
+        let r = c .answer in
+        let some : 0 < r .taken = goes-on (c .does) (c .room) (c .note-room) (omega arith) in
+        let left = drop (r .taken) (x ∷ t) ++ [] in
+        let fewer : length left ≤ n = omega (arith, length-append (drop (r .taken) (x ∷ t)) [], length-drop (r .taken) (x ∷ t)) in
+        let more = comes n (r .reader) left fewer in
+        subst (λ i. (all : Report) × Session explain name s i all) (append-nil (x ∷ t)) (_, feeds (x ∷ t) [] (c .does) (more .1))

@@ -2,7 +2,7 @@
 use mathlib.Core.Path.{_≡_}
 use mathlib.Core.Bool.{Bool, true, false, cond, _&&_, _||_}
 use mathlib.Core.List.{List, [], _∷_, _++_}
-use Prim.Native.Nat.{ℕ, _+_, _-_, min}
+use Prim.Native.Nat.{ℕ, _+_, _-_, _≤_, min}
 use lib.Dec.{leb}
 use lib.ListN.{length, take, drop}
 use Rattle.notation.specs.Pieces.{splitOn, separated}
@@ -103,3 +103,14 @@ pub data Session (explain : Bool) (name : List ℕ) : Reader → List ℕ → Re
       → Feeds explain name s (closing (placeOf s .begun)) out outAfter notes notesAfter r
       → r .taken ≡ length (closing (placeOf s .begun))
       → Session explain name s [] (record { text = take (r .next) outAfter; notes = take (r .noted) notesAfter; refused = r .refused })
+
+-- a call on a reader and a piece with buffers that have room for an answer and, where notes are wanted, for a note
+pub record Called (explain : Bool) (name : List ℕ) (s : Reader) (piece : List ℕ) : Type 0 where
+  pub out : List ℕ
+  pub outAfter : List ℕ
+  pub notes : List ℕ
+  pub notesAfter : List ℕ
+  pub answer : Fed
+  pub room : 11176 ≤ length out
+  pub note-room : explain ≡ true → length name + 91 ≤ length notes
+  pub does : Feeds explain name s piece out outAfter notes notesAfter answer

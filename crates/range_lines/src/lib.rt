@@ -226,19 +226,26 @@ pub fn feed(
     begin_line(done, rest)
 }
 
-// Whether a line is begun.
-fn is_begun(pending: Pending) -> bool
+// Whether an unfinished line has a byte.
+fn holds_bytes(pending: Pending) -> bool
     ensures { λ r. ⌜ r ≡ ltb 0 (length (pendingText pending)) ⌝ }
 {
     0 < pending.len
+}
+
+// Whether a line is begun.
+pub fn is_begun(reader: Reader) -> bool
+    ensures { λ r. ⌜ r ≡ ltb 0 (length (placeOf reader .begun)) ⌝ }
+{
+    let pending = reader.pending;
+    holds_bytes(pending)
 }
 
 // Takes the end of the input, which ends a line that is begun as a newline does.
 pub fn finish(reader: Reader, explain: bool, name: &[u8], out: &mut [u8], notes: &mut [u8]) -> Fed
     ensures { λ r. ⌜ Feeds explain (now (name .entry)) reader (closing (pendingText (reader .pending))) (now (out .entry)) (now (out .exit)) (now (notes .entry)) (now (notes .exit)) r ⌝ }
 {
-    let pending = reader.pending;
-    if !is_begun(pending) {
+    if !is_begun(reader) {
         return Fed {
             reader,
             taken: 0,

@@ -4,10 +4,10 @@
 // refused line is told on standard error. Where STATUS is a digit the program ends by writing its status, a digit, to that descriptor: the
 // language gives it no other way to tell it.
 ghost use mathlib.Core.Path.{_≡_};
-ghost use mathlib.Core.Bool.{false, cond};
-ghost use Prim.Native.Nat.{_+_, _≤_, max};
+ghost use mathlib.Core.Bool.{false, cond, _||_};
+ghost use Prim.Native.Nat.{_+_, _≤_, _<_, max};
 ghost use lib.ListN.{length};
-ghost use Rattle.range_main.specs.Runs.{Within, isMore, endOf, Finished, statusOf};
+ghost use Rattle.range_main.specs.Runs.{Brought, Filled, Within, OrUnwritten, AnswersPiece, AnswersEnd, AfterRead, Turns, endOf, isMore, Finished, statusOf, stopsAt};
 use libc::STDERR_FILENO;
 use libc::STDIN_FILENO;
 use libc::STDOUT_FILENO;
@@ -16,6 +16,7 @@ use range_lines::Fed;
 use range_lines::Reader;
 use range_lines::feed;
 use range_lines::finish;
+use range_lines::is_begun;
 use range_lines::start;
 
 // How far an input is: there is more, or it has ended, or it could not be read, or the answers could not be written.
@@ -24,6 +25,13 @@ pub enum End {
     Ended,
     Unread,
     Unwritten,
+}
+
+// What a read has brought: so many bytes, of which there are none at the end of the input; or nothing, since it was interrupted, or failed.
+pub enum Got {
+    Bytes(usize),
+    Again,
+    Failed,
 }
 
 // An input that is being read: where the reading stands, the bytes of the last piece that are not taken yet, whether a line was refused, and
@@ -55,11 +63,16 @@ struct Sent {
     left: usize,
 }
 
-// What has come of the files: the worst of their statuses, how many were answered, and whether the program stopped before the others.
+// What has come of some files: the worst of their statuses, and whether the program is to stop.
 struct Tally {
     status: u8,
-    files: usize,
     stop: bool,
+}
+
+// What has come of the files, and the argument that is next.
+struct Files {
+    tally: Tally,
+    next: usize,
 }
 
 // Tells on standard error what failed, with the system's words.
@@ -70,20 +83,30 @@ fn tell(what: &[u8]) {
     os::fail(&line[..end]);
 }
 
-// Whether a call that answered `moved` was interrupted, so that it is to be made again.
-fn interrupted(moved: isize) -> bool {
-    if moved < 0 {
-        return os::errno() == libc::EINTR;
+// What a read that answered `got` has brought to the buffer.
+fn brought(got: isize, input: &[u8]) -> Got
+    ensures { λ r. ⌜ Brought got (length (now (input .entry))) r ⌝ }
+{
+    if got < 0 {
+        if os::errno() == libc::EINTR {
+            return Got::Again;
+        }
+        return Got::Failed;
     }
-    false
+    Got::Bytes(io::count(got, input))
 }
 
-// Whether a call that wrote so many bytes has failed.
-fn stuck(put: isize, taken: usize) -> bool {
+// Whether a call that wrote so many bytes has failed: it took none, and was not interrupted.
+fn stuck(put: isize, taken: usize) -> bool
+    ensures { λ r. ⌜ (0 < taken → r ≡ false) ⌝ }
+{
     if 0 < taken {
         return false;
     }
-    !interrupted(put)
+    if put < 0 {
+        return os::errno() != libc::EINTR;
+    }
+    true
 }
 
 // Writes a text. Each byte was taken by a call, or is left: none is, unless a call failed.
@@ -117,7 +140,7 @@ fn write_text(fd: i32, text: &[u8]) -> Sent
 
 // The input could not be read, or the answers could not be written.
 fn failed(run: Run, end: End) -> Run
-    ensures { λ r. ⌜ Within r ⌝ }
+    ensures { λ r. ⌜ Within r × (r .end ≡ end) ⌝ }
 {
     let reader = run.reader;
     Run {
@@ -144,6 +167,15 @@ fn write_answers(fed: Fed, out: &[u8], notes: &[u8]) -> bool
     told.left == 0
 }
 
+fn either(a: bool, b: bool) -> bool
+    ensures { λ r. ⌜ r ≡ (a || b) ⌝ }
+{
+    if a {
+        return true;
+    }
+    b
+}
+
 // Answers the bytes that are read and not taken yet, as far as the buffers have room for the answers.
 fn answer_piece(
     run: Run,
@@ -153,8 +185,8 @@ fn answer_piece(
     out: &mut [u8],
     notes: &mut [u8],
 ) -> Run
-    requires { ⌜ Within run × (length (now input) ≡ 65536) ⌝ }
-    ensures { λ r. ⌜ Within r ⌝ }
+    requires { ⌜ Within run × (length (now input) ≡ 65536) × (length (now out) ≡ 65536) × (length (now notes) ≡ 65536) ⌝ }
+    ensures { λ r. ⌜ Within r × OrUnwritten r (AnswersPiece explain (now (name .entry)) run (now (input .entry)) r) ⌝ }
 {
     let from = run.from;
     let to = run.to;
@@ -168,7 +200,7 @@ fn answer_piece(
         reader,
         from: from + fed.taken,
         to,
-        refused: run.refused || fed.refused,
+        refused: either(run.refused, fed.refused),
         end: End::More,
     }
 }
@@ -177,8 +209,7 @@ fn answer_piece(
 fn end_of(reader: Reader) -> End
     ensures { λ r. ⌜ r ≡ endOf reader ⌝ }
 {
-    let pending = reader.pending;
-    if 0 < pending.len {
+    if is_begun(reader) {
         return End::More;
     }
     End::Ended
@@ -186,7 +217,8 @@ fn end_of(reader: Reader) -> End
 
 // Answers a last line without its newline.
 fn answer_end(run: Run, explain: bool, name: &[u8], out: &mut [u8], notes: &mut [u8]) -> Run
-    ensures { λ r. ⌜ Within r ⌝ }
+    requires { ⌜ (length (now out) ≡ 65536) × (length (now notes) ≡ 65536) ⌝ }
+    ensures { λ r. ⌜ Within r × OrUnwritten r (AnswersEnd explain (now (name .entry)) run r) ⌝ }
 {
     let before = run.reader;
     let fed = finish(before, explain, name, out, notes);
@@ -198,8 +230,44 @@ fn answer_end(run: Run, explain: bool, name: &[u8], out: &mut [u8], notes: &mut 
         reader,
         from: 0,
         to: 0,
-        refused: run.refused || fed.refused,
+        refused: either(run.refused, fed.refused),
         end: end_of(reader),
+    }
+}
+
+// Answers what a read has brought.
+fn after_read(
+    run: Run,
+    got: Got,
+    input: &[u8],
+    explain: bool,
+    name: &[u8],
+    out: &mut [u8],
+    notes: &mut [u8],
+) -> Run
+    requires { ⌜ Within run × (length (now input) ≡ 65536) × (length (now out) ≡ 65536) × (length (now notes) ≡ 65536) × Filled got ⌝ }
+    ensures { λ r. ⌜ Within r × AfterRead explain (now (name .entry)) run got (now (input .entry)) r ⌝ }
+{
+    match got {
+        Got::Again => run,
+        Got::Failed => {
+            tell(name);
+            failed(run, End::Unread)
+        }
+        Got::Bytes(n) => {
+            if n == 0 {
+                return answer_end(run, explain, name, out, notes);
+            }
+            let reader = run.reader;
+            let piece = Run {
+                reader,
+                from: 0,
+                to: n,
+                refused: run.refused,
+                end: End::More,
+            };
+            answer_piece(piece, input, explain, name, out, notes)
+        }
     }
 }
 
@@ -213,33 +281,15 @@ fn turn(
     out: &mut [u8],
     notes: &mut [u8],
 ) -> Run
-    requires { ⌜ Within run × (length (now input) ≡ 65536) ⌝ }
-    ensures { λ r. ⌜ Within r ⌝ }
+    requires { ⌜ Within run × (length (now input) ≡ 65536) × (length (now out) ≡ 65536) × (length (now notes) ≡ 65536) ⌝ }
+    ensures { λ r. ⌜ Within r × Turns explain (now (name .entry)) run (now (input .exit)) r ⌝ }
 {
     if run.from < run.to {
         return answer_piece(run, input, explain, name, out, notes);
     }
-    let got = libc::read(fd, input);
-    if interrupted(got) {
-        return run;
-    }
-    if got < 0 {
-        tell(name);
-        return failed(run, End::Unread);
-    }
-    let n = io::count(got, input);
-    if n == 0 {
-        return answer_end(run, explain, name, out, notes);
-    }
-    let reader = run.reader;
-    let fresh = Run {
-        reader,
-        from: 0,
-        to: n,
-        refused: run.refused,
-        end: End::More,
-    };
-    answer_piece(fresh, input, explain, name, out, notes)
+    let moved = libc::read(fd, input);
+    let got = brought(moved, input);
+    after_read(run, got, input, explain, name, out, notes)
 }
 
 // Whether there is more.
@@ -302,7 +352,7 @@ fn refused_status(refused: bool) -> u8
 
 // The status of an input. Where the answers could not be written nothing more is to be read.
 fn judge(outcome: Outcome, name: &[u8]) -> Verdict
-    ensures { λ r. ⌜ r .status ≡ statusOf (outcome .end) (outcome .refused) ⌝ }
+    ensures { λ r. ⌜ (r .status ≡ statusOf (outcome .end) (outcome .refused)) × (r .stop ≡ stopsAt (outcome .end)) ⌝ }
 {
     let end = outcome.end;
     match end {
@@ -345,7 +395,7 @@ fn answer_file(i: usize, explain: bool) -> Verdict {
     let mut path = io::buffer();
     let n = os::arg(i, &mut path);
     if os::errno() != 0 {
-        tell(b"a file's name");
+        tell(&path);
         return Verdict {
             status: 2,
             stop: false,
@@ -367,42 +417,43 @@ fn answer_file(i: usize, explain: bool) -> Verdict {
     verdict
 }
 
-// The larger of two statuses.
-fn worse(a: u8, b: u8) -> u8
-    ensures { λ r. ⌜ r ≡ max a b ⌝ }
+// A file more: the worst status counts.
+fn counted(tally: Tally, verdict: Verdict) -> Tally
+    ensures { λ r. ⌜ (r .status ≡ max (tally .status) (verdict .status)) × (r .stop ≡ verdict .stop) ⌝ }
 {
-    if a < b { b } else { a }
-}
-
-// The files that the arguments from the third on name, in turn. Where the program does not stop before, each is answered.
-fn answer_files(count: usize, explain: bool) -> Tally
-    ensures { λ r. ⌜ (r .stop ≡ false → 3 ≤ count → 3 + r .files ≡ count) ⌝ }
-{
-    let mut status: u8 = 0;
-    let mut files: usize = 0;
-    let mut i: usize = 3;
-    while i < count {
-        let verdict = answer_file(i, explain);
-        status = worse(status, verdict.status);
-        if verdict.stop {
-            return Tally {
-                status,
-                files,
-                stop: true,
-            };
-        }
-        i += 1;
-        files += 1;
+    if tally.status < verdict.status {
+        return Tally {
+            status: verdict.status,
+            stop: verdict.stop,
+        };
     }
     Tally {
-        status,
-        files,
-        stop: false,
+        status: tally.status,
+        stop: verdict.stop,
     }
+}
+
+// The files that the arguments from the third on name, in turn. They are all answered, unless the program is to stop.
+fn answer_files(count: usize, explain: bool) -> Files
+    ensures { λ r. ⌜ (r .tally .stop ≡ false → 3 ≤ count → r .next ≡ count) ⌝ }
+{
+    let mut tally = Tally {
+        status: 0,
+        stop: false,
+    };
+    let mut next: usize = 3;
+    while next < count {
+        tally = counted(tally, answer_file(next, explain));
+        if tally.stop {
+            return Files { tally, next };
+        }
+        next += 1;
+    }
+    Files { tally, next }
 }
 
 // Writes the status to the descriptor that the first argument names by a digit.
-fn report(status: u8) {
+fn write_status(status: u8) {
     let mut text = io::buffer();
     let n = os::arg(1, &mut text);
     if n != 1 {
@@ -436,9 +487,10 @@ fn main() {
     let explain = wants_notes();
     if count <= 3 {
         let verdict = answer_input(STDIN_FILENO, explain, b"(standard input)");
-        report(verdict.status);
+        write_status(verdict.status);
         return;
     }
-    let tally = answer_files(count, explain);
-    report(tally.status);
+    let files = answer_files(count, explain);
+    let tally = files.tally;
+    write_status(tally.status);
 }

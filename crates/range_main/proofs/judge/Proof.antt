@@ -1,6 +1,6 @@
 -- `range_main::judge` meets its contract. Assumes nothing.
 use mathlib.Core.Path.{sym, ap, _∙_}
-use Rattle.range_main.specs.Runs.{statusOf}
+use Rattle.range_main.specs.Runs.{statusOf, stopsAt}
 use borrow.Author.Needs.{needs}
 use Rattle.range_main.proofs.judge.Statement.{statement}
 use Rattle.range_main.proofs.judge.Tie as tie
@@ -24,7 +24,10 @@ tell-requires : tie.Need-tell-requires
 tell-requires c κs = search needs
 
 returns : tie.Need-returns
-returns c = c .refused-status .ensures ∙ ap (λ e. statusOf e (c .before .before .before .before .args .outcome .refused)) (sym (c .before .enum-told .given .1))
+returns c =
+    let told = c .before .enum-told .given .1 in
+    let a = c .before .before .before .before .args .outcome in
+    (c .refused-status .ensures ∙ ap (λ e. statusOf e (a .refused)) (sym told), ap stopsAt (sym told))
 
 returns-2 : tie.Need-returns-2
 returns-2 c = search needs
