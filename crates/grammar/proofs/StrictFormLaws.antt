@@ -13,7 +13,7 @@ use lib.ListN.{length}
 use Rattle.notation.specs.BigEndian.{digitsOf, numberOf}
 use Rattle.notation.specs.Options.{orElse}
 use Rattle.notation.proofs.DigitLaws.{four-number}
-use Rattle.notation.proofs.OptionLaws.{impossible, nothing-there}
+use Rattle.notation.proofs.OptionLaws.{impossible, nothing-there, or-none}
 use Rattle.address.specs.declared.Address.{Address}
 use Rattle.address.specs.declared.Address.the-variants.{V4, V6}
 use Rattle.address.specs.declared.Refusal.the-variants.{TextTooLong, Malformed, WrongFamily}
@@ -93,10 +93,6 @@ reads-means-6 t a e = go (eightOf t) refl e
     go (some gs) q k = let is : groupsAddress gs ≡ a = cc in subst (IPv6Text t) is (groups-mean gs (eight-length (reads-eight t gs q)) (reads-grammar t gs q))
 
 -- ---- each family
-
-or-none : {A : Type 0} (o : Option A) → orElse o none ≡ o
-or-none none = refl
-or-none (some a) = refl
 
 means-6-not-dotted : {t : List ℕ} {a : Address} → IPv6Text t a → dottedOf t ≡ none
 means-6-not-dotted (of-groups {t} {a} {b} {c} {d} {e} {f} {g} {h} i) = colon-not-dotted t (eight-colon t (a ∷ b ∷ c ∷ d ∷ e ∷ f ∷ g ∷ h ∷ []) (grammar-reads i))

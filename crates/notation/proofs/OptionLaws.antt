@@ -18,6 +18,10 @@ nothing-there none n = refl
 nothing-there (some a) n = absurd (n a refl)
 
 -- the first that is there
+pub or-none : {A : Type 0} (o : Option A) → orElse o none ≡ o
+or-none none = refl
+or-none (some a) = refl
+
 pub or-else-exactly : {A : Type 0} (o u : Option A) (a : A) → (orElse o u ≡ some a) ↔ ((o ≡ some a) ⊎ (o ≡ none) × (u ≡ some a))
 or-else-exactly none u a = (λ e. inr (refl, e), λ h. ⊎-elim (λ e. impossible e) (λ e. e .1) h)
 or-else-exactly (some b) u a = (λ e. inl e, λ h. ⊎-elim (λ e. e) (λ e. impossible (sym (e .0))) h)

@@ -167,6 +167,7 @@ fn write_answers(fed: Fed, out: &[u8], notes: &[u8]) -> bool
     told.left == 0
 }
 
+// Whether a line was refused before, or now.
 fn either(a: bool, b: bool) -> bool
     ensures { λ r. ⌜ r ≡ (a || b) ⌝ }
 {

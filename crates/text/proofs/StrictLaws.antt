@@ -8,6 +8,7 @@ use native.Mathlib.Decide.{decLe}
 use native.Mathlib.Omega.{arith}
 use borrow.Author.Tests.{lt-ltb, le-ltb, ne-eqb}
 use lib.ListN.{length}
+use Rattle.notation.proofs.OptionLaws.{or-none}
 use Rattle.notation.specs.Options.{orElse}
 use Rattle.address.specs.declared.Address.{Address}
 use Rattle.address.specs.declared.Address.the-variants.{V4}
@@ -29,10 +30,6 @@ read-says (some b) a e = cc
 pub refused-says : (o : Option Address) (r : Refusal) → Refused r ≡ asReading o → o ≡ none
 refused-says none r e = refl
 refused-says (some b) r e = let z : _≡_ {A = ℕ} 0 1 = cc in absurd (omega arith)
-
-or-none : {A : Type 0} (o : Option A) → orElse o none ≡ o
-or-none none = refl
-or-none (some a) = refl
 
 module _ (f : ℕ) (t : List ℕ) where
   pub strict-4 : f ≡ 4 → Option·map V4 (dottedOf t) ≡ strictOf f t
