@@ -2,8 +2,18 @@
 
 use std::ffi::OsString;
 use std::fs;
+use std::os::unix::process::CommandExt;
 use std::path::{Path, PathBuf};
 use std::process::{Command, Output, Stdio};
+
+unsafe extern "C" {
+    fn signal(number: i32, handler: usize) -> usize;
+}
+
+/// What a signal does by default. The numbers are Linux's.
+const SIG_DFL: usize = 0;
+const SIGINT: i32 = 2;
+const SIGXFSZ: i32 = 25;
 
 pub struct Scratch(PathBuf);
 
@@ -65,7 +75,8 @@ impl Scratch {
     }
 
     /// A shell that is to run the command here. Rust has SIGPIPE ignored in itself, but not in what it
-    /// runs.
+    /// runs; the other signals that tests send may be ignored in whatever runs the tests, as SIGINT is
+    /// in the background of a shell.
     pub fn command(&self, command: &str) -> Command {
         let mut path = OsString::from(concat!(env!("CARGO_MANIFEST_DIR"), "/..:"));
         path.push(std::env::var_os("PATH").unwrap_or_default());
@@ -77,6 +88,15 @@ impl Scratch {
             // the system's words in English
             .env("LC_ALL", "C")
             .stdin(Stdio::null());
+        // SAFETY: signal is safe between fork and exec, and takes plain integers.
+        unsafe {
+            shell.pre_exec(|| {
+                for number in [SIGINT, SIGXFSZ] {
+                    signal(number, SIG_DFL);
+                }
+                Ok(())
+            });
+        }
         shell
     }
 
