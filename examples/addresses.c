@@ -65,7 +65,7 @@ static bool print_blocks(const char *first_text, const char *last_text)
 
     /* The larger of the two rooms suffices for a range of either family. */
     uint8_t records[NIBHARROW_RANGE_ROOM_6];
-    nibharrow_range_written range =
+    nibharrow_blocks_written range =
         nibharrow_range_blocks(first, first_bytes, last, last_bytes, records, sizeof records);
     if (!accepted(range.refusal))
         return false;

@@ -41,7 +41,8 @@ enum nibharrow_refusal {
     NIBHARROW_NO_CLASS = 6,           /* an address that begins with bits 111, or a network number of no class */
     NIBHARROW_HOST_TOO_LARGE = 7,     /* the host number is too large for the class of its network number */
     NIBHARROW_FIRST_ABOVE_LAST = 8,   /* the first address of a range is above the last */
-    NIBHARROW_WRONG_FAMILY = 9        /* not family 4, 6 or 0; the ends of a range differ; IPv6 where only IPv4 is meant */
+    NIBHARROW_WRONG_FAMILY = 9,       /* not family 4, 6 or 0; the ends of a range differ; IPv6 where only IPv4 is meant */
+    NIBHARROW_TOO_MANY = 10           /* more entries than the call takes */
 };
 
 /* Room that always suffices, in bytes. */
@@ -81,11 +82,11 @@ typedef struct nibharrow_block_read {
 } nibharrow_block_read;
 
 /* How many records are at the start of `out`, end to end, and how many bytes they fill. */
-typedef struct nibharrow_range_written {
+typedef struct nibharrow_blocks_written {
     uint32_t refusal;
     size_t blocks;
     size_t bytes;
-} nibharrow_range_written;
+} nibharrow_blocks_written;
 
 /*
  * Reads strict text and writes the address to `out`. `family` is 4, 6, or 0 for either.
@@ -153,11 +154,11 @@ nibharrow_written nibharrow_write_block(const uint8_t *address, size_t address_l
  * length.
  * Refusals: 9 where the families of two addresses differ, 2, 8, 3.
  */
-nibharrow_range_written nibharrow_range_blocks(const uint8_t *first, size_t first_length, const uint8_t *last, size_t last_length, uint8_t *out, size_t out_length);
+nibharrow_blocks_written nibharrow_range_blocks(const uint8_t *first, size_t first_length, const uint8_t *last, size_t last_length, uint8_t *out, size_t out_length);
 
 /*
  * Writes a refusal in words to `out`.
- * Refusals: 2 where the number is none of 1 to 9, 3.
+ * Refusals: 2 where the number is none of 1 to 10, 3.
  */
 nibharrow_written nibharrow_refusal_text(uint32_t number, uint8_t *out, size_t out_length);
 

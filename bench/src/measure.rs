@@ -4,7 +4,7 @@ use std::fmt::Debug;
 use std::hint::black_box;
 use std::time::Duration;
 
-use nibharrow::raw::{BlockRead, NetworkHost, RangeWritten, Written};
+use nibharrow::raw::{BlockRead, BlocksWritten, NetworkHost, Written};
 
 /// How long a side is timed for in each round, and in each of its turns: short ones, so that what
 /// else goes on in the machine meets both sides alike.
@@ -30,7 +30,7 @@ macro_rules! counted_answers {
     };
 }
 
-counted_answers!(Written, BlockRead, RangeWritten);
+counted_answers!(Written, BlockRead, BlocksWritten);
 
 impl Answer for NetworkHost {
     fn bytes(&self) -> usize {

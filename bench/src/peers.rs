@@ -10,7 +10,7 @@ use std::io::Write;
 use std::net::{IpAddr, Ipv4Addr, Ipv6Addr};
 use std::str::FromStr;
 
-use nibharrow::raw::{BlockRead, NetworkHost, RangeWritten, Written};
+use nibharrow::raw::{BlockRead, BlocksWritten, NetworkHost, Written};
 
 use crate::inputs::Text;
 
@@ -371,14 +371,14 @@ fn try_range_blocks<const MASKS: bool>(
 }
 
 #[inline(never)]
-pub fn range_blocks<const MASKS: bool>(first: &[u8], last: &[u8], out: &mut [u8]) -> RangeWritten {
+pub fn range_blocks<const MASKS: bool>(first: &[u8], last: &[u8], out: &mut [u8]) -> BlocksWritten {
     match try_range_blocks::<MASKS>(first, last, out) {
-        Ok((blocks, bytes)) => RangeWritten {
+        Ok((blocks, bytes)) => BlocksWritten {
             refusal: 0,
             blocks,
             bytes,
         },
-        Err(refusal) => RangeWritten {
+        Err(refusal) => BlocksWritten {
             refusal,
             blocks: 0,
             bytes: 0,

@@ -3,7 +3,7 @@
 
 use crate::rules;
 use nibharrow::exact;
-use nibharrow::raw::{BlockRead, NetworkHost, NetworkRead, RangeWritten, Written};
+use nibharrow::raw::{BlockRead, BlocksWritten, NetworkHost, NetworkRead, Written};
 use std::fmt;
 
 #[derive(Clone, Debug)]
@@ -89,8 +89,8 @@ impl From<BlockRead> for Answer {
     }
 }
 
-impl From<RangeWritten> for Answer {
-    fn from(answer: RangeWritten) -> Self {
+impl From<BlocksWritten> for Answer {
+    fn from(answer: BlocksWritten) -> Self {
         Self::new(answer.refusal, [answer.blocks as u64, 0], answer.bytes)
     }
 }
@@ -189,7 +189,7 @@ impl Case {
 /// The rules do not fix the words of a refusal, so they are the library's own; fixed are the
 /// numbers that have words, and that the words are one text which is written whole or not at all.
 fn refusal_text(number: u32, out: &mut [u8]) -> Result<usize, u32> {
-    if !(1..=9).contains(&number) {
+    if !(1..=10).contains(&number) {
         return Err(rules::MALFORMED);
     }
     let mut words = [0; REFUSAL_TEXT_ROOM];

@@ -104,8 +104,8 @@ impl Judge {
         for (name, possible) in OUTCOMES {
             let reached = self.outcomes.clone();
             let count = |refusal| reached.get(&(name, refusal)).copied().unwrap_or(0);
-            let total: u64 = (0..=9).map(count).sum();
-            let refused: Vec<String> = (1..=9)
+            let total: u64 = (0..=10).map(count).sum();
+            let refused: Vec<String> = (1..=10)
                 .filter(|&refusal| count(refusal) > 0)
                 .map(|refusal| format!("{refusal}: {}", count(refusal)))
                 .collect();
@@ -114,7 +114,7 @@ impl Judge {
                 "  {name:<14} {total:>9} compared, {:>8} accepted, refused {refused}",
                 count(0)
             );
-            for refusal in 0..=9 {
+            for refusal in 0..=10 {
                 let expected = possible.contains(&refusal);
                 self.expect(expected == (count(refusal) > 0), || {
                     format!(

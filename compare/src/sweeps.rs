@@ -358,7 +358,7 @@ fn range_rooms(run: &mut Run, case: &Case) {
 /// at all.
 fn refusal_texts(run: &mut Run) {
     let mut texts = Vec::new();
-    for number in 1..=9 {
+    for number in 1..=10 {
         let case = Case::RefusalText { number };
         for room in 0..=REFUSAL_TEXT_ROOM + 8 {
             run.compare(&case, room);

@@ -5,7 +5,7 @@
 
 #![allow(unsafe_code)]
 
-use crate::raw::{self, BlockRead, NetworkHost, NetworkRead, RangeWritten, Written};
+use crate::raw::{self, BlockRead, BlocksWritten, NetworkHost, NetworkRead, Written};
 
 /// Defines a function for each row. A row names the slices to be read, the numbers, and the buffer
 /// to be written, in this order, which every function of the header has.
@@ -45,6 +45,6 @@ calls! {
     join = nibharrow_join(; network host; out) -> Written;
     read_block = nibharrow_read_block(text; ; out) -> BlockRead;
     write_block = nibharrow_write_block(address; length; out) -> Written;
-    range_blocks = nibharrow_range_blocks(first last; ; out) -> RangeWritten;
+    range_blocks = nibharrow_range_blocks(first last; ; out) -> BlocksWritten;
     refusal_text = nibharrow_refusal_text(; number; out) -> Written;
 }

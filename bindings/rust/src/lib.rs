@@ -1,6 +1,6 @@
 //! IP addresses read, written, split and turned into blocks, by a library proved to keep its rules.
 //!
-//! Every call of Nibharrow gives, for each input, the one answer that its rules fix, or one of nine
+//! Every call of Nibharrow gives, for each input, the one answer that its rules fix, or one of ten
 //! [`Refusal`]s. No text is read by a rule that the caller did not ask for: `010.0.0.12` is refused
 //! as strict text, and is 8.0.0.12 in the loose form, in which a leading `0` means octal.
 //!

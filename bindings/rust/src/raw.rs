@@ -46,7 +46,7 @@ pub struct BlockRead {
 /// How many records are at the start of the lent buffer, and how many bytes they fill.
 #[repr(C)]
 #[derive(Clone, Copy, Debug, PartialEq, Eq)]
-pub struct RangeWritten {
+pub struct BlocksWritten {
     pub refusal: u32,
     pub blocks: usize,
     pub bytes: usize,
@@ -107,6 +107,6 @@ extern "C" {
         last_length: usize,
         out: *mut u8,
         out_length: usize,
-    ) -> RangeWritten;
+    ) -> BlocksWritten;
     pub fn nibharrow_refusal_text(number: u32, out: *mut u8, out_length: usize) -> Written;
 }

@@ -1,7 +1,7 @@
 use std::fmt;
 
 use crate::lend::{granted, text_in};
-use crate::raw::{BlockRead, NetworkHost, NetworkRead, RangeWritten, Written};
+use crate::raw::{BlockRead, BlocksWritten, NetworkHost, NetworkRead, Written};
 use crate::{exact, room};
 
 /// Why a call says no.
@@ -39,10 +39,12 @@ pub enum Refusal {
     /// number that is not 4, 6 or 0 and an IPv6 address where only IPv4 is meant, cannot be handed
     /// to the calls of this crate.
     WrongFamily = 9,
+    /// There are more entries than the call takes.
+    TooMany = 10,
 }
 
 impl Refusal {
-    /// The number of this refusal in the rules and in the C interface, 1 to 9.
+    /// The number of this refusal in the rules and in the C interface, 1 to 10.
     pub const fn number(self) -> u32 {
         self as u32
     }
@@ -59,6 +61,7 @@ impl Refusal {
             7 => Self::HostTooLarge,
             8 => Self::FirstAboveLast,
             9 => Self::WrongFamily,
+            10 => Self::TooMany,
             _ => return None,
         })
     }
@@ -73,7 +76,7 @@ impl fmt::Display for Refusal {
         });
         f.pad(granted(
             text,
-            "each of the nine has a text of at most 54 bytes",
+            "each of the ten has a text of at most 54 bytes",
         ))
     }
 }
@@ -96,13 +99,13 @@ macro_rules! answers {
     )*};
 }
 
-answers! { Written NetworkRead NetworkHost BlockRead RangeWritten }
+answers! { Written NetworkRead NetworkHost BlockRead BlocksWritten }
 
 /// The answer, or its refusal.
 pub(crate) fn checked<A: Answer>(answer: A) -> Result<A, Refusal> {
     match answer.refusal() {
         0 => Ok(answer),
-        // The header promises one of its nine numbers.
+        // The header promises one of its ten numbers.
         number => Err(Refusal::from_number(number).unwrap_or_else(|| unreachable!("{number}"))),
     }
 }

@@ -76,7 +76,7 @@ fn layouts() -> String {
         layout!("nibharrow_network_read", raw::NetworkRead, refusal size bytes),
         layout!("nibharrow_network_host", raw::NetworkHost, refusal network host),
         layout!("nibharrow_block_read", raw::BlockRead, refusal length bytes),
-        layout!("nibharrow_range_written", raw::RangeWritten, refusal blocks bytes),
+        layout!("nibharrow_blocks_written", raw::BlocksWritten, refusal blocks bytes),
     ]
     .concat()
 }
@@ -127,7 +127,7 @@ fn translated(declaration: &str) -> String {
         ("nibharrow_network_read ", "NetworkRead"),
         ("nibharrow_network_host ", "NetworkHost"),
         ("nibharrow_block_read ", "BlockRead"),
-        ("nibharrow_range_written ", "RangeWritten"),
+        ("nibharrow_blocks_written ", "BlocksWritten"),
     ];
     // The type and the name that it stands before.
     let typed = |text: &str| {

@@ -51,11 +51,11 @@ fn checks_room(text: &str, write: impl Fn(&mut [u8]) -> Result<&str, Refusal>) {
 
 #[test]
 fn refusals() {
-    for number in 1..=9 {
+    for number in 1..=10 {
         let refusal = Refusal::from_number(number).unwrap();
         assert_eq!(refusal.number(), number);
     }
-    for number in [0, 10, 256 + 2, u32::MAX] {
+    for number in [0, 11, 256 + 2, u32::MAX] {
         assert_eq!(Refusal::from_number(number), None);
     }
     let error: Box<dyn std::error::Error> = Box::new(FirstAboveLast);

@@ -34,7 +34,7 @@ fn longest_texts() {
 
 #[test]
 fn longest_words() {
-    let lengths = (1..=9).map(|number| Refusal::from_number(number).unwrap().to_string().len());
+    let lengths = (1..=10).map(|number| Refusal::from_number(number).unwrap().to_string().len());
     assert_eq!(lengths.max(), Some(room::REFUSAL_TEXT));
 }
 

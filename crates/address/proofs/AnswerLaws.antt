@@ -11,7 +11,7 @@ use lib.Dec.{eqb, lit<}
 use lib.ListN.{length, take, drop, length-append, length-drop}
 use lib.Seq.{take-at, drop-at}
 use Rattle.address.specs.declared.Refusal.{Refusal}
-use Rattle.address.specs.declared.Refusal.the-variants.{TextTooLong, Malformed, NoRoom, LengthTooLarge, BitsBeyondLength, NoClass, HostTooLarge, FirstAboveLast, WrongFamily}
+use Rattle.address.specs.declared.Refusal.the-variants.{TextTooLong, Malformed, NoRoom, LengthTooLarge, BitsBeyondLength, NoClass, HostTooLarge, FirstAboveLast, WrongFamily, TooMany}
 use Rattle.address.specs.Answers.{Answer, refusalNumber, answer, gives, refuses, writeRefusal, writeAnswer, writeLeaves}
 
 -- ---- the paper's answer, from a refusal's number
@@ -26,6 +26,7 @@ number-pos NoClass = lit< tt
 number-pos HostTooLarge = lit< tt
 number-pos FirstAboveLast = lit< tt
 number-pos WrongFamily = lit< tt
+number-pos TooMany = lit< tt
 
 pub nonzero : (e : Refusal) → eqb (refusalNumber e) 0 ≡ false
 nonzero e = ne-eqb (refusalNumber e) 0 (let pos = number-pos e in omega arith)

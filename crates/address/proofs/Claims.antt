@@ -18,7 +18,7 @@ use Rattle.address.specs.declared.Address.the-variants.{V4, V6}
 use Rattle.address.specs.declared.Block.{Block}
 use Rattle.address.specs.declared.Order.the-variants.{Below, Same, Above, TwoFamilies}
 use Rattle.address.specs.declared.Refusal.{Refusal}
-use Rattle.address.specs.declared.Refusal.the-variants.{TextTooLong, Malformed, NoRoom, LengthTooLarge, BitsBeyondLength, NoClass, HostTooLarge, FirstAboveLast, WrongFamily}
+use Rattle.address.specs.declared.Refusal.the-variants.{TextTooLong, Malformed, NoRoom, LengthTooLarge, BitsBeyondLength, NoClass, HostTooLarge, FirstAboveLast, WrongFamily, TooMany}
 use Rattle.address.specs.declared.Reading.{Reading}
 use Rattle.address.specs.declared.Writing.{Writing}
 use Rattle.address.specs.declared.BlockReading.{BlockReading}
@@ -38,7 +38,7 @@ use Rattle.address.proofs.OrderLaws as orders
 
 -- the refusals in the order of their numbers
 abbrev refusals : List Refusal
-refusals = TextTooLong ∷ Malformed ∷ NoRoom ∷ LengthTooLarge ∷ BitsBeyondLength ∷ NoClass ∷ HostTooLarge ∷ FirstAboveLast ∷ WrongFamily ∷ []
+refusals = TextTooLong ∷ Malformed ∷ NoRoom ∷ LengthTooLarge ∷ BitsBeyondLength ∷ NoClass ∷ HostTooLarge ∷ FirstAboveLast ∷ WrongFamily ∷ TooMany ∷ []
 
 refusal-at : (e : Refusal) → getD refusals (refusalNumber e - 1) Malformed ≡ e
 refusal-at TextTooLong = refl
@@ -50,6 +50,7 @@ refusal-at NoClass = refl
 refusal-at HostTooLarge = refl
 refusal-at FirstAboveLast = refl
 refusal-at WrongFamily = refl
+refusal-at TooMany = refl
 
 -- No two refusals have one number.
 pub one-number : (e f : Refusal) → refusalNumber e ≡ refusalNumber f → e ≡ f
@@ -82,18 +83,19 @@ none-holds ((m, t) ∷ conditions) h = rw (ap (λ ts. getD ts 0 false) h) (none-
 pub first-holds : (conditions : List (ℕ × Bool)) → 0 < firstOf conditions → holds (firstOf conditions) conditions ≡ true
 first-holds = orders.first-holds
 
--- 01's order has every refusal: one whose condition alone holds is given.
-pub every-judged : (e : Refusal) → refusal precedence ((refusalNumber e, true) ∷ []) ≡ refusalNumber e
+-- 01's order has every refusal of 01: one whose condition alone holds is given.
+pub every-judged : (e : Refusal) → refusalNumber e ≤ 9 → refusal precedence ((refusalNumber e, true) ∷ []) ≡ refusalNumber e
 unfolding refusal
-every-judged TextTooLong = refl
-every-judged Malformed = refl
-every-judged NoRoom = refl
-every-judged LengthTooLarge = refl
-every-judged BitsBeyondLength = refl
-every-judged NoClass = refl
-every-judged HostTooLarge = refl
-every-judged FirstAboveLast = refl
-every-judged WrongFamily = refl
+every-judged TextTooLong h = refl
+every-judged Malformed h = refl
+every-judged NoRoom h = refl
+every-judged LengthTooLarge h = refl
+every-judged BitsBeyondLength h = refl
+every-judged NoClass h = refl
+every-judged HostTooLarge h = refl
+every-judged FirstAboveLast h = refl
+every-judged WrongFamily h = refl
+every-judged TooMany h = absurd (omega arith)
 
 module _ (reasons : List (ℕ × Bool)) where
   -- A call's refusal is one that holds, whatever the order.

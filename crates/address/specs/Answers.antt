@@ -9,7 +9,7 @@ use Rattle.address.specs.declared.Address.{Address}
 use Rattle.address.specs.declared.Address.the-variants.{V4}
 use Rattle.address.specs.declared.Block.{Block}
 use Rattle.address.specs.declared.Refusal.{Refusal}
-use Rattle.address.specs.declared.Refusal.the-variants.{TextTooLong, Malformed, NoRoom, LengthTooLarge, BitsBeyondLength, NoClass, HostTooLarge, FirstAboveLast, WrongFamily}
+use Rattle.address.specs.declared.Refusal.the-variants.{TextTooLong, Malformed, NoRoom, LengthTooLarge, BitsBeyondLength, NoClass, HostTooLarge, FirstAboveLast, WrongFamily, TooMany}
 use Rattle.address.specs.declared.Reading.{Reading}
 use Rattle.address.specs.declared.Writing.{Writing}
 use Rattle.address.specs.declared.BlockReading.{BlockReading}
@@ -19,7 +19,7 @@ use Rattle.address.specs.declared.Writing.the-variants as writing
 use Rattle.address.specs.declared.BlockReading.the-variants as block
 use Rattle.address.specs.declared.Check.the-variants as check
 
--- the table's numbers
+-- the table's numbers, and 02's: Req 01 has 10, more entries than a call takes
 abbrev pub refusalNumber : Refusal → ℕ
 refusalNumber TextTooLong = 1
 refusalNumber Malformed = 2
@@ -30,6 +30,7 @@ refusalNumber NoClass = 6
 refusalNumber HostTooLarge = 7
 refusalNumber FirstAboveLast = 8
 refusalNumber WrongFamily = 9
+refusalNumber TooMany = 10
 
 -- ---- the order of refusals
 

@@ -19,7 +19,7 @@ pub struct Block {
     pub length: u8,
 }
 
-// Why a call says no, in the order of the numbers 1 to 9.
+// Why a call says no, in the order of the numbers 1 to 10.
 pub enum Refusal {
     TextTooLong,
     Malformed,
@@ -30,6 +30,7 @@ pub enum Refusal {
     HostTooLarge,
     FirstAboveLast,
     WrongFamily,
+    TooMany,
 }
 
 // What a reader of an address answers.
@@ -65,7 +66,7 @@ pub enum Order {
 }
 
 impl Refusal {
-    // The number of the table, 1 to 9.
+    // The number of the table, 1 to 10.
     pub fn number(self) -> u8
         ensures { λ r. ⌜ r ≡ refusalNumber self ⌝ }
     {
@@ -79,6 +80,7 @@ impl Refusal {
             Refusal::HostTooLarge => 7,
             Refusal::FirstAboveLast => 8,
             Refusal::WrongFamily => 9,
+            Refusal::TooMany => 10,
         }
     }
 }

@@ -4,8 +4,8 @@ use Rattle.c_answers.specs.declared.Written.{Written}
 use Rattle.c_answers.specs.declared.NetworkRead.{NetworkRead}
 use Rattle.c_answers.specs.declared.NetworkHost.{NetworkHost}
 use Rattle.c_answers.specs.declared.BlockRead.{BlockRead}
-use Rattle.c_answers.specs.declared.RangeWritten.{RangeWritten}
-use Rattle.c_answers.specs.CAnswers.{writtenAnswer, networkReadAnswer, networkHostAnswer, blockReadAnswer, rangeWrittenAnswer}
+use Rattle.c_answers.specs.declared.BlocksWritten.{BlocksWritten}
+use Rattle.c_answers.specs.CAnswers.{writtenAnswer, networkReadAnswer, networkHostAnswer, blockReadAnswer, blocksWrittenAnswer}
 
 pub one-written : (r s : Written) → writtenAnswer r ≡ writtenAnswer s → r ≡ s
 one-written r s h = λ i. record { refusal = h i .number; bytes = h i .fields }
@@ -19,5 +19,5 @@ one-network-host r s h = λ i. record { refusal = h i .number; network = h i .fi
 pub one-block-read : (r s : BlockRead) → blockReadAnswer r ≡ blockReadAnswer s → r ≡ s
 one-block-read r s h = λ i. record { refusal = h i .number; length = h i .fields .0; bytes = h i .fields .1 }
 
-pub one-range-written : (r s : RangeWritten) → rangeWrittenAnswer r ≡ rangeWrittenAnswer s → r ≡ s
-one-range-written r s h = λ i. record { refusal = h i .number; blocks = h i .fields .0; bytes = h i .fields .1 }
+pub one-blocks-written : (r s : BlocksWritten) → blocksWrittenAnswer r ≡ blocksWrittenAnswer s → r ≡ s
+one-blocks-written r s h = λ i. record { refusal = h i .number; blocks = h i .fields .0; bytes = h i .fields .1 }

@@ -5,7 +5,7 @@ use Rattle.c_answers.specs.declared.Written.{Written}
 use Rattle.c_answers.specs.declared.NetworkRead.{NetworkRead}
 use Rattle.c_answers.specs.declared.NetworkHost.{NetworkHost}
 use Rattle.c_answers.specs.declared.BlockRead.{BlockRead}
-use Rattle.c_answers.specs.declared.RangeWritten.{RangeWritten}
+use Rattle.c_answers.specs.declared.BlocksWritten.{BlocksWritten}
 
 abbrev pub writtenAnswer : Written → Answer ℕ
 writtenAnswer r = record { number = r .refusal; fields = r .bytes }
@@ -19,8 +19,8 @@ networkHostAnswer r = record { number = r .refusal; fields = (r .network, r .hos
 abbrev pub blockReadAnswer : BlockRead → Answer (ℕ × ℕ)
 blockReadAnswer r = record { number = r .refusal; fields = (r .length, r .bytes) }
 
-abbrev pub rangeWrittenAnswer : RangeWritten → Answer (ℕ × ℕ)
-rangeWrittenAnswer r = record { number = r .refusal; fields = (r .blocks, r .bytes) }
+abbrev pub blocksWrittenAnswer : BlocksWritten → Answer (ℕ × ℕ)
+blocksWrittenAnswer r = record { number = r .refusal; fields = (r .blocks, r .bytes) }
 
 -- a number, and what a writer answers
 abbrev pub besides : ℕ → Answer ℕ → Answer (ℕ × ℕ)

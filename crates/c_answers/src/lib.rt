@@ -4,13 +4,13 @@ ghost use Prim.Native.Nat.{min};
 ghost use Rattle.address.specs.Answers.{refuses, writingAnswer};
 ghost use Rattle.network.specs.Network.{networkReadingAnswer};
 ghost use Rattle.classes.specs.Classes.{splittingAnswer};
-ghost use Rattle.ranges.specs.Ranges.{rangeWritingAnswer};
-ghost use Rattle.c_answers.specs.CAnswers.{writtenAnswer, networkReadAnswer, networkHostAnswer, blockReadAnswer, rangeWrittenAnswer, besides};
+ghost use Rattle.records.specs.Records.{blocksWritingAnswer};
+ghost use Rattle.c_answers.specs.CAnswers.{writtenAnswer, networkReadAnswer, networkHostAnswer, blockReadAnswer, blocksWrittenAnswer, besides};
 use address::Refusal;
 use address::Writing;
 use classes::Splitting;
 use network::NetworkReading;
-use ranges::RangeWriting;
+use records::BlocksWriting;
 
 // Every answer has the refusal's number first, 0 for none; where it is not 0, every other field is.
 
@@ -47,7 +47,7 @@ pub struct BlockRead {
 
 // How many records are at the start of the lent buffer, and how many bytes they fill.
 #[repr(C)]
-pub struct RangeWritten {
+pub struct BlocksWritten {
     pub refusal: u32,
     pub blocks: usize,
     pub bytes: usize,
@@ -129,16 +129,16 @@ pub fn as_block_read(length: u8, w: Writing) -> BlockRead
 }
 
 // What the writer of a range answered.
-pub fn as_range_written(w: RangeWriting) -> RangeWritten
-    ensures { λ r. ⌜ rangeWrittenAnswer r ≡ rangeWritingAnswer w ⌝ }
+pub fn as_blocks_written(w: BlocksWriting) -> BlocksWritten
+    ensures { λ r. ⌜ blocksWrittenAnswer r ≡ blocksWritingAnswer w ⌝ }
 {
     match w {
-        RangeWriting::Wrote(blocks, bytes) => RangeWritten {
+        BlocksWriting::Wrote(blocks, bytes) => BlocksWritten {
             refusal: 0,
             blocks,
             bytes,
         },
-        RangeWriting::Refused(e) => RangeWritten {
+        BlocksWriting::Refused(e) => BlocksWritten {
             refusal: e.number() as u32,
             blocks: 0,
             bytes: 0,

@@ -320,17 +320,17 @@ range-exactly first last old a b is-a is-b = rw (is-a, is-b) (laws.range-good-oc
 
 -- ---- words
 
--- The number is refused by 2 exactly if it is none of 1 to 9, and by 3 exactly if it is one of them and the room is less; else the call is good.
+-- The number is refused by 2 exactly if it is none of 1 to 10, and by 3 exactly if it is one of them and the room is less; else the call is good.
 module _ (k : ℕ) (old : List ℕ) where
-  pub words-unknown : (wordsInto k old .answers .number ≡ 2) ↔ ¬ ((1 ≤ k) × (k ≤ 9))
+  pub words-unknown : (wordsInto k old .answers .number ≡ 2) ↔ ¬ ((1 ≤ k) × (k ≤ 10))
   unfolding wordsInto
   words-unknown = words.unknown-exactly k old
 
-  pub words-short : (wordsInto k old .answers .number ≡ 3) ↔ ((1 ≤ k) × (k ≤ 9) × (length old < length (wordsText k)))
+  pub words-short : (wordsInto k old .answers .number ≡ 3) ↔ ((1 ≤ k) × (k ≤ 10) × (length old < length (wordsText k)))
   unfolding wordsInto
   words-short = words.room-exactly k old
 
-  pub words-good : (wordsInto k old .answers ≡ gives (length (wordsText k))) ↔ ((1 ≤ k) × (k ≤ 9) × (length (wordsText k) ≤ length old))
+  pub words-good : (wordsInto k old .answers ≡ gives (length (wordsText k))) ↔ ((1 ≤ k) × (k ≤ 10) × (length (wordsText k) ≤ length old))
   unfolding wordsInto
   words-good = words.good-exactly k old
 

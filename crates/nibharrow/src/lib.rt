@@ -4,7 +4,7 @@ ghost use Rattle.address.specs.Answers.{readingAnswer};
 ghost use Rattle.text.specs.Strict.{strictAnswer};
 ghost use Rattle.loose.specs.Loose.{looseAnswer};
 ghost use Rattle.classes.specs.Classes.{joinAnswer};
-ghost use Rattle.c_answers.specs.CAnswers.{writtenAnswer, networkReadAnswer, networkHostAnswer, blockReadAnswer, rangeWrittenAnswer};
+ghost use Rattle.c_answers.specs.CAnswers.{writtenAnswer, networkReadAnswer, networkHostAnswer, blockReadAnswer, blocksWrittenAnswer};
 ghost use Rattle.nibharrow.specs.Interface.{outcome, addressInto, addressWritten, networkInto, networkWritten, octetsSplit, blockInto, blockWritten, rangeTo, rangeInto, wordsInto};
 use address::Address;
 use address::Block;
@@ -14,15 +14,15 @@ use address::Writing;
 use blocks::read_block;
 use blocks::write_block;
 use c_answers::BlockRead;
+use c_answers::BlocksWritten;
 use c_answers::NetworkHost;
 use c_answers::NetworkRead;
-use c_answers::RangeWritten;
 use c_answers::Written;
 use c_answers::as_block_read;
+use c_answers::as_blocks_written;
 use c_answers::as_byte;
 use c_answers::as_network_host;
 use c_answers::as_network_read;
-use c_answers::as_range_written;
 use c_answers::as_written;
 use c_answers::refused;
 use classes::Splitting;
@@ -34,8 +34,8 @@ use network::write_network;
 use normal::write_address;
 use octets::read_octets;
 use octets::write_octets;
-use ranges::RangeWriting;
 use ranges::range_blocks;
+use records::BlocksWriting;
 use text::read_address;
 use words::write_words;
 
@@ -137,22 +137,22 @@ pub extern "C" fn nibharrow_write_block(address: &[u8], length: u32, out: &mut [
 }
 
 // Writes the records of the range from an address to the one that a reader answered.
-fn put_range(first: Address, last: Reading, out: &mut [u8]) -> RangeWritten
-    ensures { λ r. ⌜ outcome (rangeWrittenAnswer r) (now (out .exit)) ≡ rangeTo first (readingAnswer last) (now (out .entry)) ⌝ }
+fn put_range(first: Address, last: Reading, out: &mut [u8]) -> BlocksWritten
+    ensures { λ r. ⌜ outcome (blocksWrittenAnswer r) (now (out .exit)) ≡ rangeTo first (readingAnswer last) (now (out .entry)) ⌝ }
 {
     match last {
-        Reading::Read(b) => as_range_written(range_blocks(first, b, out)),
-        Reading::Refused(e) => as_range_written(RangeWriting::Refused(e)),
+        Reading::Read(b) => as_blocks_written(range_blocks(first, b, out)),
+        Reading::Refused(e) => as_blocks_written(BlocksWriting::Refused(e)),
     }
 }
 
 #[no_mangle]
-pub extern "C" fn nibharrow_range_blocks(first: &[u8], last: &[u8], out: &mut [u8]) -> RangeWritten
-    ensures { λ r. ⌜ outcome (rangeWrittenAnswer r) (now (out .exit)) ≡ rangeInto (now (first .entry)) (now (last .entry)) (now (out .entry)) ⌝ }
+pub extern "C" fn nibharrow_range_blocks(first: &[u8], last: &[u8], out: &mut [u8]) -> BlocksWritten
+    ensures { λ r. ⌜ outcome (blocksWrittenAnswer r) (now (out .exit)) ≡ rangeInto (now (first .entry)) (now (last .entry)) (now (out .entry)) ⌝ }
 {
     match read_octets(first) {
         Reading::Read(a) => put_range(a, read_octets(last), out),
-        Reading::Refused(e) => as_range_written(RangeWriting::Refused(e)),
+        Reading::Refused(e) => as_blocks_written(BlocksWriting::Refused(e)),
     }
 }
 

@@ -22,7 +22,7 @@ use Rattle.address.specs.declared.Address.{Address}
 use Rattle.address.specs.declared.Address.the-variants.{V4, V6}
 use Rattle.address.specs.declared.Block.{Block}
 use Rattle.address.specs.declared.Refusal.{Refusal}
-use Rattle.address.specs.declared.Refusal.the-variants.{TextTooLong, Malformed, NoRoom, LengthTooLarge, BitsBeyondLength, NoClass, HostTooLarge, FirstAboveLast, WrongFamily}
+use Rattle.address.specs.declared.Refusal.the-variants.{TextTooLong, Malformed, NoRoom, LengthTooLarge, BitsBeyondLength, NoClass, HostTooLarge, FirstAboveLast, WrongFamily, TooMany}
 use Rattle.address.specs.Addresses.{family, width, number, IsAddress}
 use Rattle.address.specs.Answers.{refusalNumber, gives, refuses, noAddress, readingAnswer}
 use Rattle.address.specs.Blocks.{numbered}
@@ -86,6 +86,7 @@ refused-spelt NoClass = refl
 refused-spelt HostTooLarge = refl
 refused-spelt FirstAboveLast = refl
 refused-spelt WrongFamily = refl
+refused-spelt TooMany = refl
 
 -- ---- an address text
 

@@ -1,9 +1,11 @@
 -- The lines of an answer, read again as block texts. Assumes nothing.
 use mathlib.Core.Path.{_≡_, refl, sym, ap, ap₂, subst, _∙_}
 use mathlib.Core.Logic.{_⊎_, inl, inr}
+use mathlib.Core.Bool.{cond}
 use mathlib.Core.List.{List, [], _∷_, _++_, map}
-use Prim.Native.Nat.{ℕ, suc, _+_}
+use Prim.Native.Nat.{ℕ, suc, _+_, _-_, _*_}
 use native.Mathlib.Omega.{arith}
+use lib.Dec.{eqb}
 use lib.ListN.{length, getD, length-append}
 use Rattle.notation.specs.Ascii.{ascii}
 use Rattle.notation.specs.Pieces.{contains, Lacks}
@@ -12,6 +14,7 @@ use Rattle.cover.specs.Blocks as cover
 use Rattle.address.specs.declared.Address.{Address}
 use Rattle.address.specs.declared.Block.{Block}
 use Rattle.address.specs.declared.Refusal.{Refusal}
+use Rattle.address.specs.declared.Refusal.the-variants.{TextTooLong, Malformed, NoRoom, LengthTooLarge, BitsBeyondLength, NoClass, HostTooLarge, FirstAboveLast, WrongFamily, TooMany}
 use Rattle.address.specs.Addresses.{family, width, number}
 use Rattle.address.specs.Answers.{refusalNumber, gives}
 use Rattle.address.specs.Blocks.{numbered}
@@ -140,9 +143,25 @@ refused-number : (n : ℕ) → refusedBy n .number ≡ n
 unfolding refusedBy
 refused-number n = refl
 
+-- the number of one digit or two behind "refused "
+numberIn : List ℕ → ℕ
+numberIn t = cond (eqb (getD t 9 0) newline) (getD t 8 0 - 48) ((getD t 8 0 - 48) * 10 + (getD t 9 0 - 48))
+
+number-in : (e : Refusal) → numberIn (ended (refusedText e ∷ [])) ≡ refusalNumber e
+unfolding ascii numberIn
+number-in TextTooLong = refl
+number-in Malformed = refl
+number-in NoRoom = refl
+number-in LengthTooLarge = refl
+number-in BitsBeyondLength = refl
+number-in NoClass = refl
+number-in HostTooLarge = refl
+number-in FirstAboveLast = refl
+number-in WrongFamily = refl
+number-in TooMany = refl
+
 one-refusal : (d e : Refusal) → ended (refusedText d ∷ []) ≡ ended (refusedText e ∷ []) → refusalNumber d ≡ refusalNumber e
-unfolding ascii
-one-refusal d e h = let n : 48 + refusalNumber d ≡ 48 + refusalNumber e = ap (λ t. getD t 8 0) h in omega arith
+one-refusal d e h = sym (number-in d) ∙ ap numberIn h ∙ number-in e
 
 module _ {line : List ℕ} (s : Says line (lineText line)) where
   pub number-told : (e : Refusal) → lineNumber line ≡ refusalNumber e → lineText line ≡ ended (refusedText e ∷ [])

@@ -1,8 +1,10 @@
 -- The answer to one line of the range program, sentence by sentence (01, "Blocks and ranges"), to be held beside the paper. A line is the list of
 -- its bytes before the newline. Nothing is split, searched or walked here. Assumes nothing.
 use mathlib.Core.Path.{_≡_}
+use mathlib.Core.Bool.{cond}
 use mathlib.Core.List.{List, [], _∷_, _++_, map}
-use Prim.Native.Nat.{ℕ, _+_, _≤_, _<_}
+use Prim.Native.Nat.{ℕ, _+_, _/_, _%_, _≤_, _<_}
+use lib.Dec.{ltb}
 use lib.ListN.{length}
 use Rattle.notation.specs.Ascii.{ascii}
 use Rattle.cover.specs.Blocks.{Fewest, Range}
@@ -37,9 +39,13 @@ abbrev pub ended : List (List ℕ) → List ℕ
 ended [] = []
 ended (t ∷ ts) = t ++ newline ∷ ended ts
 
+-- the digits of a number below 100
+abbrev pub spelt : ℕ → List ℕ
+spelt n = cond (ltb n 10) ((48 + n) ∷ []) ((48 + n / 10) ∷ (48 + n % 10) ∷ [])
+
 -- "`refused N`"
 abbrev pub refusedText : Refusal → List ℕ
-refusedText e = ascii "refused " ++ (48 + refusalNumber e) ∷ []
+refusedText e = ascii "refused " ++ spelt (refusalNumber e)
 
 -- block values with addresses of that family
 abbrev pub OfFamily : ℕ → List Block → Type 0

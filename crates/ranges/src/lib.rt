@@ -2,17 +2,13 @@
 ghost use mathlib.Core.Path.{_≡_};
 ghost use Rattle.address.specs.Addresses.{family};
 ghost use Rattle.output.specs.Placing.{PutsAll};
-ghost use Rattle.ranges.specs.Ranges.{rangeRecords, rangeWritingAnswer, rangeAnswer, rangeLeaves};
+ghost use Rattle.records.specs.Records.{blocksWritingAnswer};
+ghost use Rattle.ranges.specs.Ranges.{rangeRecords, rangeAnswer, rangeLeaves};
 use address::Address;
 use address::Refusal;
+use records::BlocksWriting;
 use runs::put_ipv4;
 use runs::put_ipv6;
-
-// What a range answers: the number of blocks and of bytes.
-pub enum RangeWriting {
-    Wrote(usize, usize),
-    Refused(Refusal),
-}
 
 // Puts the records of the blocks from first to last, of one family, at the start of `out` where all of them have room. Answers how many
 // bytes they are, or 0.
@@ -29,21 +25,21 @@ fn put_range(first: Address, last: Address, out: &mut [u8]) -> usize
 }
 
 // Turns the range from first to last into the fewest blocks, and writes their records to the start of `out`.
-pub fn range_blocks(first: Address, last: Address, out: &mut [u8]) -> RangeWriting
-    ensures { λ r. ⌜ (rangeWritingAnswer r ≡ rangeAnswer first last (now (out .entry))) × (now (out .exit) ≡ rangeLeaves first last (now (out .entry))) ⌝ }
+pub fn range_blocks(first: Address, last: Address, out: &mut [u8]) -> BlocksWriting
+    ensures { λ r. ⌜ (blocksWritingAnswer r ≡ rangeAnswer first last (now (out .entry))) × (now (out .exit) ≡ rangeLeaves first last (now (out .entry))) ⌝ }
 {
     if first.family() != last.family() {
-        return RangeWriting::Refused(Refusal::WrongFamily);
+        return BlocksWriting::Refused(Refusal::WrongFamily);
     }
     if last.number().less(first.number()) {
-        return RangeWriting::Refused(Refusal::FirstAboveLast);
+        return BlocksWriting::Refused(Refusal::FirstAboveLast);
     }
     let bytes = put_range(first, last, out);
     if bytes == 0 {
-        return RangeWriting::Refused(Refusal::NoRoom);
+        return BlocksWriting::Refused(Refusal::NoRoom);
     }
     if first.family() == 4 {
-        return RangeWriting::Wrote(bytes / 5, bytes);
+        return BlocksWriting::Wrote(bytes / 5, bytes);
     }
-    RangeWriting::Wrote(bytes / 17, bytes)
+    BlocksWriting::Wrote(bytes / 17, bytes)
 }

@@ -16,6 +16,12 @@ use octets::put_eight;
 use octets::put_four;
 use octets::read_octets;
 
+// What a writer of blocks answers: the number of blocks and of bytes.
+pub enum BlocksWriting {
+    Wrote(usize, usize),
+    Refused(Refusal),
+}
+
 // How many bytes the record of a block with that address has.
 pub fn record_size(address: Address) -> usize
     ensures { λ r. ⌜ r ≡ recordSize (width address) ⌝ }

@@ -14,8 +14,8 @@ use network::read_network;
 use network::write_network;
 use normal::write_address;
 use octets::read_octets;
-use ranges::RangeWriting;
 use ranges::range_blocks;
+use records::BlocksWriting;
 use text::read_address;
 
 // ---- parts of a line
@@ -114,7 +114,7 @@ fn end_network(size: u8, count: usize, buffer: &[u8]) {
 fn end_range(first: Address, last: Address, wanted: bool) {
     let mut out = [0u8; 310];
     match range_blocks(first, last, &mut out) {
-        RangeWriting::Wrote(blocks, bytes) => {
+        BlocksWriting::Wrote(blocks, bytes) => {
             say_number(b"blocks ", blocks);
             say_number(b", bytes ", bytes);
             if wanted {
@@ -123,7 +123,7 @@ fn end_range(first: Address, last: Address, wanted: bool) {
             }
             say(b"\n");
         }
-        RangeWriting::Refused(e) => end_refused(e),
+        BlocksWriting::Refused(e) => end_refused(e),
     }
 }
 

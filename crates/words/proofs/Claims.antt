@@ -6,7 +6,7 @@ use mathlib.Core.List.{List}
 use Prim.Native.Nat.{ℕ, _≤_, _<_}
 use lib.ListN.{length}
 use Rattle.address.specs.declared.Refusal.{Refusal}
-use Rattle.address.specs.declared.Refusal.the-variants.{TextTooLong, Malformed, NoRoom, LengthTooLarge, BitsBeyondLength, NoClass, HostTooLarge, FirstAboveLast, WrongFamily}
+use Rattle.address.specs.declared.Refusal.the-variants.{TextTooLong, Malformed, NoRoom, LengthTooLarge, BitsBeyondLength, NoClass, HostTooLarge, FirstAboveLast, WrongFamily, TooMany}
 use Rattle.address.specs.Answers.{refusalNumber, missing, gives, writeAnswer}
 use Rattle.address.proofs.Claims.{one-number}
 use Rattle.address.proofs.Claims as address
@@ -25,10 +25,11 @@ every-refusal NoClass = refl
 every-refusal HostTooLarge = refl
 every-refusal FirstAboveLast = refl
 every-refusal WrongFamily = refl
+every-refusal TooMany = refl
 
--- A number has words exactly if it is 1 to 9, which are the numbers of the refusals; 0, that of a good answer, has none.
-pub words-exactly : (n : ℕ) → (missing (refusalWords n) ≡ false) ↔ ((1 ≤ n) × (n ≤ 9))
-words-exactly = laws.words-1-to-9
+-- A number has words exactly if it is 1 to 10, which are the numbers of the refusals; 0, that of a good answer, has none.
+pub words-exactly : (n : ℕ) → (missing (refusalWords n) ≡ false) ↔ ((1 ≤ n) × (n ≤ 10))
+words-exactly = laws.words-1-to-10
 
 pub words-of-refusals : (n : ℕ) → (missing (refusalWords n) ≡ false) ↔ ((e : Refusal) × (refusalNumber e ≡ n))
 words-of-refusals n = (
@@ -42,7 +43,7 @@ own-words e f h = one-number e f (sym (laws.number-back e) ∙ ap laws.numberBy 
 
 -- What a call with a number answers: 2 exactly if the number is none of these, 3 exactly if it is one and the room is less, and else it is good.
 module _ (n : ℕ) (old : List ℕ) where
-  pub unknown-exactly : (writeAnswer (wordsRefusal n) (wordsText n) old .number ≡ 2) ↔ ¬ ((1 ≤ n) × (n ≤ 9))
+  pub unknown-exactly : (writeAnswer (wordsRefusal n) (wordsText n) old .number ≡ 2) ↔ ¬ ((1 ≤ n) × (n ≤ 10))
   unfolding writeAnswer
   unknown-exactly =
       let none = laws.refused-2 n (wordsText n) old in (
@@ -50,7 +51,7 @@ module _ (n : ℕ) (old : List ℕ) where
         λ f. none .1 (laws.not-false (missing (refusalWords n)) (λ e. f (words-exactly n .0 e))),
       )
 
-  pub room-exactly : (writeAnswer (wordsRefusal n) (wordsText n) old .number ≡ 3) ↔ ((1 ≤ n) × (n ≤ 9) × (length old < length (wordsText n)))
+  pub room-exactly : (writeAnswer (wordsRefusal n) (wordsText n) old .number ≡ 3) ↔ ((1 ≤ n) × (n ≤ 10) × (length old < length (wordsText n)))
   room-exactly =
       let room = address.room-exactly (wordsRefusal n) (wordsText n) old (laws.not-3 n) in
       let none = laws.no-reason n in (
@@ -58,7 +59,7 @@ module _ (n : ℕ) (old : List ℕ) where
         λ k. room .1 (none .1 (words-exactly n .1 (k .0, k .1)), k .2),
       )
 
-  pub good-exactly : (writeAnswer (wordsRefusal n) (wordsText n) old ≡ gives (length (wordsText n))) ↔ ((1 ≤ n) × (n ≤ 9) × (length (wordsText n) ≤ length old))
+  pub good-exactly : (writeAnswer (wordsRefusal n) (wordsText n) old ≡ gives (length (wordsText n))) ↔ ((1 ≤ n) × (n ≤ 10) × (length (wordsText n) ≤ length old))
   good-exactly =
       let good = address.good-exactly (wordsRefusal n) (wordsText n) old in
       let none = laws.no-reason n in (

@@ -12,7 +12,7 @@ use lib.Dec.{eqb, ltb, leb}
 use lib.ListN.{length, getD}
 use Rattle.address.specs.declared.Refusal.{Refusal}
 use Rattle.address.specs.Answers.{Answer, refusalNumber, missing, refuses, writeRefusal, writeAnswer, writeLeaves}
-use Rattle.address.specs.declared.Refusal.the-variants.{TextTooLong, Malformed, NoRoom, LengthTooLarge, BitsBeyondLength, NoClass, HostTooLarge, FirstAboveLast, WrongFamily}
+use Rattle.address.specs.declared.Refusal.the-variants.{TextTooLong, Malformed, NoRoom, LengthTooLarge, BitsBeyondLength, NoClass, HostTooLarge, FirstAboveLast, WrongFamily, TooMany}
 use Rattle.words.specs.Words.{table, wordsIn, refusalWords, wordsText, wordsRefusal, printable}
 
 -- ---- the table's numbers
@@ -35,20 +35,20 @@ words-counted n k (w ∷ ws) h =
       | no d ↦ rw (ne-eqb n (w .0) d) (λ e. let r = more .0 e in (omega (arith, r .0), omega (arith, r .1)), λ r. more .1 (omega (arith, r .0, d), omega (arith, r .1)))
     ]
 
-pub words-1-to-9 : (n : ℕ) → (missing (refusalWords n) ≡ false) ↔ ((1 ≤ n) × (n ≤ 9))
+pub words-1-to-10 : (n : ℕ) → (missing (refusalWords n) ≡ false) ↔ ((1 ≤ n) × (n ≤ 10))
 unfolding refusalWords countsFrom
-words-1-to-9 n = let c = words-counted n 1 table refl in (λ e. let r = c .0 e in (r .0, omega (arith, r .1)), λ r. c .1 (r .0, omega (arith, r .1)))
+words-1-to-10 n = let c = words-counted n 1 table refl in (λ e. let r = c .0 e in (r .0, omega (arith, r .1)), λ r. c .1 (r .0, omega (arith, r .1)))
 
 -- ---- the refusals
 
 abbrev Numbered : ℕ → Type 0
 Numbered n = (e : Refusal) × (refusalNumber e ≡ n)
 
--- a number of 1 to 9 is a refusal's
-pub refusal-of : (n : ℕ) → 1 ≤ n → n ≤ 9 → Numbered n
+-- a number of 1 to 10 is a refusal's
+pub refusal-of : (n : ℕ) → 1 ≤ n → n ≤ 10 → Numbered n
 refusal-of n l h =
     up TextTooLong l λ l. up Malformed l λ l. up NoRoom l λ l. up LengthTooLarge l λ l. up BitsBeyondLength l λ l. up NoClass l λ l. up HostTooLarge l λ l.
-    up FirstAboveLast l λ l. (WrongFamily, omega (arith, l, h))
+    up FirstAboveLast l λ l. up WrongFamily l λ l. (TooMany, omega (arith, l, h))
   where
     up : (e : Refusal) → refusalNumber e ≤ n → (refusalNumber e + 1 ≤ n → Numbered n) → Numbered n
     up e l above = elim (ℕ-discrete n (refusalNumber e)) [ yes p ↦ (e, sym p) | no p ↦ above (omega (arith, l, p)) ]
@@ -73,6 +73,7 @@ number-back NoClass = refl
 number-back HostTooLarge = refl
 number-back FirstAboveLast = refl
 number-back WrongFamily = refl
+number-back TooMany = refl
 
 -- ---- what is written
 
@@ -92,14 +93,14 @@ module _ (n : ℕ) (old : List ℕ) where
   unfolding wordsRefusal writeAnswer writeLeaves
   words-refused w = rw w (refl, refl)
 
--- a number that is none of 1 to 9, as a match tells it, is not of the table
+-- a number that is none of 1 to 10, as a match tells it, is not of the table
 abbrev Not : ℕ → ℕ → Type 0
 Not n k = n ≡ k → ⊥
 
-pub no-words : (n : ℕ) → ((((((((Unit {0} × Not n 1) × Not n 2) × Not n 3) × Not n 4) × Not n 5) × Not n 6) × Not n 7) × Not n 8) × Not n 9 → refusalWords n ≡ none
+pub no-words : (n : ℕ) → (((((((((Unit {0} × Not n 1) × Not n 2) × Not n 3) × Not n 4) × Not n 5) × Not n 6) × Not n 7) × Not n 8) × Not n 9) × Not n 10 → refusalWords n ≡ none
 unfolding refusalWords
 no-words n h =
-    rw (ne-eqb n 1 (h .0 .0 .0 .0 .0 .0 .0 .0 .1), ne-eqb n 2 (h .0 .0 .0 .0 .0 .0 .0 .1), ne-eqb n 3 (h .0 .0 .0 .0 .0 .0 .1), ne-eqb n 4 (h .0 .0 .0 .0 .0 .1), ne-eqb n 5 (h .0 .0 .0 .0 .1), ne-eqb n 6 (h .0 .0 .0 .1), ne-eqb n 7 (h .0 .0 .1), ne-eqb n 8 (h .0 .1), ne-eqb n 9 (h .1))
+    rw (ne-eqb n 1 (h .0 .0 .0 .0 .0 .0 .0 .0 .0 .1), ne-eqb n 2 (h .0 .0 .0 .0 .0 .0 .0 .0 .1), ne-eqb n 3 (h .0 .0 .0 .0 .0 .0 .0 .1), ne-eqb n 4 (h .0 .0 .0 .0 .0 .0 .1), ne-eqb n 5 (h .0 .0 .0 .0 .0 .1), ne-eqb n 6 (h .0 .0 .0 .0 .1), ne-eqb n 7 (h .0 .0 .0 .1), ne-eqb n 8 (h .0 .0 .1), ne-eqb n 9 (h .0 .1), ne-eqb n 10 (h .1))
 
 -- ---- the reason against a number
 

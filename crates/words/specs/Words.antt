@@ -7,7 +7,7 @@ use lib.Dec.{eqb}
 use Rattle.notation.specs.Ascii.{ascii, within}
 use Rattle.address.specs.Answers.{missing, precedence, refusal}
 
--- the table's numbers, each with its words
+-- the numbers of 01's table and of 02's requests, each with its words
 abbrev pub table : List (ℕ × List ℕ)
 table =
     (1, ascii "the text is longer than 64 bytes")
@@ -19,6 +19,7 @@ table =
     ∷ (7, ascii "the host number is too large for its network's class")
     ∷ (8, ascii "the first address is above the last")
     ∷ (9, ascii "the address family is unknown, mixed or not meant here")
+    ∷ (10, ascii "there are more entries than the call takes")
     ∷ []
 
 -- the words beside a number

@@ -23,6 +23,7 @@ pub fn write_words(number: u32, out: &mut [u8]) -> Writing
             b"the address family is unknown, mixed or not meant here",
             out,
         ),
+        10 => store(b"there are more entries than the call takes", out),
         _ => Writing::Refused(Refusal::Malformed),
     }
 }

@@ -46,10 +46,10 @@ int main(void)
     ANSWER(block_read, read_block(TEXT("10.0.0.0/8"), NOTHING), length, bytes);
     WRITTEN(write_block(NOTHING, 32, NOTHING));
     WRITTEN(write_block(FOUR, 32, NOTHING));
-    ANSWER(range_written, range_blocks(NOTHING, NOTHING, NOTHING), blocks, bytes);
-    ANSWER(range_written, range_blocks(FOUR, NOTHING, NOTHING), blocks, bytes);
-    ANSWER(range_written, range_blocks(NOTHING, FOUR, NOTHING), blocks, bytes);
-    ANSWER(range_written, range_blocks(FOUR, FOUR, NOTHING), blocks, bytes);
+    ANSWER(blocks_written, range_blocks(NOTHING, NOTHING, NOTHING), blocks, bytes);
+    ANSWER(blocks_written, range_blocks(FOUR, NOTHING, NOTHING), blocks, bytes);
+    ANSWER(blocks_written, range_blocks(NOTHING, FOUR, NOTHING), blocks, bytes);
+    ANSWER(blocks_written, range_blocks(FOUR, FOUR, NOTHING), blocks, bytes);
     WRITTEN(refusal_text(0, NOTHING));
     WRITTEN(refusal_text(1, NOTHING));
 
@@ -63,9 +63,9 @@ int main(void)
     ANSWER(network_host, split(SIXTEEN), network, host);
     WRITTEN(write_block(FIVE, 32, NOTHING));
     WRITTEN(write_block(FOUR, 256 + 32, NOTHING));
-    ANSWER(range_written, range_blocks(FOUR, FIVE, NOTHING), blocks, bytes);
-    ANSWER(range_written, range_blocks(FIVE, SIXTEEN, NOTHING), blocks, bytes);
-    ANSWER(range_written, range_blocks(FOUR, SIXTEEN, NOTHING), blocks, bytes);
+    ANSWER(blocks_written, range_blocks(FOUR, FIVE, NOTHING), blocks, bytes);
+    ANSWER(blocks_written, range_blocks(FIVE, SIXTEEN, NOTHING), blocks, bytes);
+    ANSWER(blocks_written, range_blocks(FOUR, SIXTEEN, NOTHING), blocks, bytes);
     WRITTEN(refusal_text(256 + 1, NOTHING));
     return 0;
 }

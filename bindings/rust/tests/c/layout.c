@@ -29,10 +29,10 @@ int main(void)
     FIELD(nibharrow_block_read, length);
     FIELD(nibharrow_block_read, bytes);
 
-    TYPE(nibharrow_range_written);
-    FIELD(nibharrow_range_written, refusal);
-    FIELD(nibharrow_range_written, blocks);
-    FIELD(nibharrow_range_written, bytes);
+    TYPE(nibharrow_blocks_written);
+    FIELD(nibharrow_blocks_written, refusal);
+    FIELD(nibharrow_blocks_written, blocks);
+    FIELD(nibharrow_blocks_written, bytes);
 
     VALUE(NIBHARROW_ADDRESS_ROOM);
     VALUE(NIBHARROW_TEXT_ROOM);

@@ -21,8 +21,8 @@ put-range-requires c κs = search needs
 enum-known-e : tie.Need-enum-known-e
 enum-known-e c = search needs
 
-as-range-written-requires : tie.Need-as-range-written-requires
-as-range-written-requires c κs = search needs
+as-blocks-written-requires : tie.Need-as-blocks-written-requires
+as-blocks-written-requires c κs = search needs
 
 same-length : tie.Need-same-length
 same-length c = search needs
@@ -40,7 +40,7 @@ returns-2 : tie.Need-returns-2
 unfolding rangeInto
 returns-2 c =
     let r = c .before .before in
-    both (c .as-range-written .ensures) refl
+    both (c .as-blocks-written .ensures) refl
     ∙ reading-refused _ _ _ _ (r .before .before .read-octets .ensures) (r .e .given .0 .0) (r .e .given .1)
 
 pub nibharrow-range-blocks-spec : {M : Type 1} → statement M
@@ -52,7 +52,7 @@ nibharrow-range-blocks-spec =
     read-octets-requires-2
     put-range-requires
     enum-known-e
-    as-range-written-requires
+    as-blocks-written-requires
     same-length
     returns
     returns-2)

@@ -12,14 +12,14 @@ enum-known-last c = search needs
 range-blocks-requires : tie.Need-range-blocks-requires
 range-blocks-requires c κs = search needs
 
-as-range-written-requires : tie.Need-as-range-written-requires
-as-range-written-requires c κs = search needs
+as-blocks-written-requires : tie.Need-as-blocks-written-requires
+as-blocks-written-requires c κs = search needs
 
 enum-known-last-2 : tie.Need-enum-known-last-2
 enum-known-last-2 c = search needs
 
-as-range-written-requires-2 : tie.Need-as-range-written-requires-2
-as-range-written-requires-2 c κs = search needs
+as-blocks-written-requires-2 : tie.Need-as-blocks-written-requires-2
+as-blocks-written-requires-2 c κs = search needs
 
 same-length : tie.Need-same-length
 same-length c = search needs
@@ -29,14 +29,14 @@ unfolding rangeTo
 returns c =
     let w = c .before .before .before in
     let r = w .before .before .before in
-    both (c .as-range-written .ensures ∙ w .range-blocks .ensures .0) (w .range-blocks .ensures .1)
+    both (c .as-blocks-written .ensures ∙ w .range-blocks .ensures .0) (w .range-blocks .ensures .1)
     ∙ reading-given _ _ _ _ refl (r .last .given .0 .0) (r .last .given .1)
 
 returns-2 : tie.Need-returns-2
 unfolding rangeTo
 returns-2 c =
     let r = c .before .before in
-    both (c .as-range-written2 .ensures) refl ∙ reading-refused _ _ _ _ refl (r .last2 .given .0 .0) (r .last2 .given .1)
+    both (c .as-blocks-written2 .ensures) refl ∙ reading-refused _ _ _ _ refl (r .last2 .given .0 .0) (r .last2 .given .1)
 
 pub put-range-spec : {M : Type 1} → statement M
 put-range-spec =
@@ -44,9 +44,9 @@ put-range-spec =
     (tie.spec
     enum-known-last
     range-blocks-requires
-    as-range-written-requires
+    as-blocks-written-requires
     enum-known-last-2
-    as-range-written-requires-2
+    as-blocks-written-requires-2
     same-length
     returns
     returns-2)

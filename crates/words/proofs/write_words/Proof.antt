@@ -60,6 +60,12 @@ slice-aggregate-store-9 c = search needs
 store-requires-9 : tie.Need-store-requires-9
 store-requires-9 c κs = search needs
 
+slice-aggregate-store-10 : tie.Need-slice-aggregate-store-10
+slice-aggregate-store-10 c = search needs
+
+store-requires-10 : tie.Need-store-requires-10
+store-requires-10 c κs = search needs
+
 same-length : tie.Need-same-length
 same-length c = search needs
 
@@ -123,8 +129,15 @@ returns-9 : tie.Need-returns-9
 unfolding refusalWords
 returns-9 c = words-stored _ _ 9 _ (c .before .before .before .before .before .match .keys9) refl (c .before .before .store9 .ensures)
 
+same-length-10 : tie.Need-same-length-10
+same-length-10 c = search needs
+
 returns-10 : tie.Need-returns-10
-returns-10 c = words-refused _ _ (no-words _ (c .match .rest))
+unfolding refusalWords
+returns-10 c = words-stored _ _ 10 _ (c .before .before .before .before .before .match .keys10) refl (c .before .before .store10 .ensures)
+
+returns-11 : tie.Need-returns-11
+returns-11 c = words-refused _ _ (no-words _ (c .match .rest))
 
 pub write-words-spec : {M : Type 1} → statement M
 write-words-spec =
@@ -148,6 +161,8 @@ write-words-spec =
     store-requires-8
     slice-aggregate-store-9
     store-requires-9
+    slice-aggregate-store-10
+    store-requires-10
     same-length
     returns
     same-length-2
@@ -166,4 +181,6 @@ write-words-spec =
     returns-8
     same-length-9
     returns-9
-    returns-10)
+    same-length-10
+    returns-10
+    returns-11)
