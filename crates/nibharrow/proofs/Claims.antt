@@ -7,7 +7,7 @@ use Prim.Native.Nat.{ℕ, _+_, _*_, _/_, _≤_, _<_, min, max}
 use native.Mathlib.Omega.{arith}
 use lib.ListN.{length, take, drop}
 use Rattle.notation.specs.BigEndian.{AllBelow, digitsOf, numberOf}
-use Rattle.cover.specs.Blocks.{rangeBlocks}
+use Rattle.cover.specs.Blocks.{CoveredBy, rangeBlocks}
 use Rattle.address.specs.declared.Address.{Address}
 use Rattle.address.specs.declared.Block.{Block}
 use Rattle.address.specs.declared.Refusal.{Refusal}
@@ -31,12 +31,15 @@ use Rattle.classes.specs.Classes.{splitAnswer, joinAnswer}
 use Rattle.classes.proofs.Claims as classes
 use Rattle.blocks.specs.BlockText.{blockTextAnswer, blockText}
 use Rattle.blocks.proofs.Claims as blocks
-use Rattle.records.specs.Records.{recordSize}
+use Rattle.records.specs.Records.{recordSize, recordsOf}
 use Rattle.ranges.specs.Ranges.{rangeRecords, rangeAnswer, rangeLeaves, HoldsFewest}
+use Rattle.record_lists.specs.RecordLists.{familyWidth, mostRecords, listBlocks, listRefusal}
+use Rattle.gather.specs.Gather.{gatheredList, uncoveredList, blocksAnswer, blocksLeave, HoldsFewestOf}
+use Rattle.gather.proofs.Claims as gather
 use Rattle.words.specs.Words.{wordsText, wordsRefusal}
 use Rattle.words.proofs.Claims as words
 use Rattle.c_answers.specs.CAnswers.{besides}
-use Rattle.nibharrow.specs.Interface.{Outcome, outcome, whenGiven, writes, addressInto, addressWritten, networkInto, networkWrites, networkWritten, octetsSplit, blockInto, blockWrites, blockWritten, rangeTo, rangeInto, wordsInto}
+use Rattle.nibharrow.specs.Interface.{Outcome, outcome, whenGiven, writes, addressInto, addressWritten, networkInto, networkWrites, networkWritten, octetsSplit, blockInto, blockWrites, blockWritten, rangeTo, rangeInto, gatherInto, uncoveredInto, wordsInto}
 use Rattle.nibharrow.specs.Buffers.{Wrote, Answered, Filled}
 use Rattle.nibharrow.proofs.InterfaceLaws.{both, when-given, refused-on}
 use Rattle.nibharrow.proofs.InterfaceLaws as interface
@@ -74,6 +77,14 @@ module _ (old : List ℕ) where
   pub range-into : (first last : List ℕ) → Answered old (rangeInto first last old)
   unfolding rangeInto rangeTo rangeAnswer rangeLeaves writeLeaves
   range-into first last = after (0, 0) (λ r. r .1) old _ _ (λ a. after (0, 0) (λ r. r .1) old _ _ (λ b. judged (0, 0) (λ r. r .1) old _ _ (rangeRecords a b) refl))
+
+  pub gather-into : (f : ℕ) (records : List ℕ) → Answered old (gatherInto f records old)
+  unfolding gatherInto blocksAnswer blocksLeave writeLeaves
+  gather-into f records = judged (0, 0) (λ r. r .1) old _ _ (recordsOf (familyWidth f) (gatheredList f records)) refl
+
+  pub uncovered-into : (f : ℕ) (records : List ℕ) → Answered old (uncoveredInto f records old)
+  unfolding uncoveredInto blocksAnswer blocksLeave writeLeaves
+  uncovered-into f records = judged (0, 0) (λ r. r .1) old _ _ (recordsOf (familyWidth f) (uncoveredList f records)) refl
 
   pub words-into : (n : ℕ) → Wrote old (wordsInto n old)
   unfolding wordsInto
@@ -317,6 +328,63 @@ pub range-exactly : (first last old : List ℕ) (a b : Address) → octetsAnswer
     ↔ ((length first ≡ length last) × (numberOf 256 first ≤ numberOf 256 last) × (recordSize W * length (rangeBlocks W (numberOf 256 first) (numberOf 256 last)) ≤ length old))
 unfolding rangeInto rangeTo whenGiven
 range-exactly first last old a b is-a is-b = rw (is-a, is-b) (laws.range-good-octets first last old a b is-a is-b)
+
+-- ---- lists of records
+
+-- 02, Req 01, of the records that the caller holds after a good call, answered by the number of blocks and of bytes.
+module _ (f : ℕ) (records : List ℕ) (small : AllBelow 256 records) where
+  abbrev covered : ℕ → Type 0
+  covered x = CoveredBy (familyWidth f) (listBlocks f records) x
+
+  module _ (old : List ℕ) (count n : ℕ) where
+    -- They are the fewest blocks of what the list covers,
+    pub gathered-held : gatherInto f records old .answers ≡ gives (count, n) → HoldsFewestOf (familyWidth f) covered (count, n) old (gatherInto f records old .leaves)
+    unfolding gatherInto
+    gathered-held good = gather.gather-fewest f records small old count n good
+
+    -- and of what it does not cover.
+    pub uncovered-held : uncoveredInto f records old .answers ≡ gives (count, n) → HoldsFewestOf (familyWidth f) (λ x. ¬ covered x) (count, n) old (uncoveredInto f records old .leaves)
+    unfolding uncoveredInto
+    uncovered-held good = gather.uncovered-fewest f records small old count n good
+
+    -- "asking for that twice gives the gathered list, wherever the first answer is within the record limit": with any second buffer
+    pub uncovered-twice : uncoveredInto f records old .answers ≡ gives (count, n) → count ≤ mostRecords → (buf : List ℕ)
+        → uncoveredInto f (take n (uncoveredInto f records old .leaves)) buf ≡ gatherInto f records buf
+    unfolding gatherInto uncoveredInto
+    uncovered-twice good few buf = let (a, l) = gather.twice f records small old count n good buf few in both a l
+
+    -- A gathered list gathers to itself.
+    pub gathered-again : gatherInto f records old .answers ≡ gives (count, n) → (buf : List ℕ) → gatherInto f (take n (gatherInto f records old .leaves)) buf ≡ gatherInto f records buf
+    unfolding gatherInto
+    gathered-again good buf = let (a, l) = gather.again f records small old count n good buf in both a l
+
+  module _ (fine : listRefusal f records ≡ 0) (old : List ℕ) where
+    -- Room that always suffices: as long as the list, and what the header says.
+    pub gather-room : length records ≤ length old → gatherInto f records old .answers .number ≡ 0
+    unfolding gatherInto
+    gather-room = gather.room-of-list f records small old fine
+
+    pub uncovered-room : (f ≡ 4 → 79365 ≤ length old) → (f ≡ 6 → 1105425 ≤ length old) → uncoveredInto f records old .answers .number ≡ 0
+    unfolding uncoveredInto
+    uncovered-room = gather.room-uncovered f records small old fine
+
+-- A list that is refused is refused by its own number, whatever the room; any other by 3, exactly if the records have no room.
+module _ (f : ℕ) (records old : List ℕ) where
+  pub gather-refused : ¬ (listRefusal f records ≡ 0) → gatherInto f records old .answers .number ≡ listRefusal f records
+  unfolding gatherInto
+  gather-refused = gather.number-of-list f records (gatheredList f records) old
+
+  pub uncovered-refused : ¬ (listRefusal f records ≡ 0) → uncoveredInto f records old .answers .number ≡ listRefusal f records
+  unfolding uncoveredInto
+  uncovered-refused = gather.number-of-list f records (uncoveredList f records) old
+
+  pub gather-short : (gatherInto f records old .answers .number ≡ 3) ↔ ((listRefusal f records ≡ 0) × (length old < length (recordsOf (familyWidth f) (gatheredList f records))))
+  unfolding gatherInto
+  gather-short = gather.number-3 f records (gatheredList f records) old
+
+  pub uncovered-short : (uncoveredInto f records old .answers .number ≡ 3) ↔ ((listRefusal f records ≡ 0) × (length old < length (recordsOf (familyWidth f) (uncoveredList f records))))
+  unfolding uncoveredInto
+  uncovered-short = gather.number-3 f records (uncoveredList f records) old
 
 -- ---- words
 

@@ -24,6 +24,12 @@ use Rattle.network.proofs.TextLaws.{write-6, write-large}
 use Rattle.blocks.specs.BlockText.{blockText}
 use Rattle.blocks.proofs.BlockTextLaws.{width-most}
 use Rattle.c_answers.specs.CAnswers.{besides}
+use Rattle.cover.specs.Blocks as cover
+use Rattle.record_lists.specs.RecordLists.{isFamily}
+use Rattle.record_lists.proofs.AnswerLaws.{list-unknown}
+use Rattle.record_lists.proofs.GoodLaws.{refused-number}
+use Rattle.gather.specs.Gather.{blocksAnswer, blocksLeave}
+use Rattle.gather.proofs.WriteLaws.{list-refused}
 use Rattle.nibharrow.specs.Interface.{Outcome, outcome, whenGiven, refusedBy, andThen, addressInto, rangeTo, writes, networkWrites, blockWrites}
 
 -- equal answers and equal buffers
@@ -78,6 +84,19 @@ family-cut family n t e = cut (λ m. strictAnswer m t) family n e (λ h. sym (st
   where
     unknown : 255 < family → knownFamily family ≡ false
     unknown h = rw (ne-eqb family 4 (omega arith), ne-eqb family 6 (omega arith), ne-eqb family 0 (omega arith))
+
+-- and so is one of a list of records, whatever blocks it would write
+pub records-cut : (make : ℕ → List ℕ → List cover.Block) (family n : ℕ) (bytes old : List ℕ) → n ≡ min family 255
+    → outcome (blocksAnswer n bytes (make n bytes) old) (blocksLeave n bytes (make n bytes) old) ≡ outcome (blocksAnswer family bytes (make family bytes) old) (blocksLeave family bytes (make family bytes) old)
+records-cut make family n bytes old e =
+    cut (λ m. outcome (blocksAnswer m bytes (make m bytes) old) (blocksLeave m bytes (make m bytes) old)) family n e
+    (λ h. let p = none 255 refl in let q = none family (unknown h) in both (sym (p .0) ∙ q .0) (sym (p .1) ∙ q .1))
+  where
+    none : (m : ℕ) → isFamily m ≡ false → (refuses (0, 0) WrongFamily ≡ blocksAnswer m bytes (make m bytes) old) × (old ≡ blocksLeave m bytes (make m bytes) old)
+    none m u = list-refused m bytes old (make m bytes) WrongFamily (refused-number m bytes WrongFamily (sym (list-unknown m bytes u)))
+
+    unknown : 255 < family → isFamily family ≡ false
+    unknown h = rw (ne-eqb family 4 (omega arith), ne-eqb family 6 (omega arith))
 
 -- a refusal is the same whatever would be written
 alike : (e : Refusal) {n m : ℕ} (b c old : List ℕ) → refusalNumber e ≡ n → refusalNumber e ≡ m → writes n b old ≡ writes m c old

@@ -16,6 +16,7 @@ use Rattle.network.specs.Network.{networkAnswer, networkLeaves}
 use Rattle.classes.specs.Classes.{splitAnswer}
 use Rattle.blocks.specs.BlockText.{blockTextAnswer, blockText}
 use Rattle.ranges.specs.Ranges.{rangeAnswer, rangeLeaves}
+use Rattle.gather.specs.Gather.{gatherAnswer, gatherLeaves, uncoveredAnswer, uncoveredLeaves}
 use Rattle.words.specs.Words.{wordsText, wordsRefusal}
 use Rattle.c_answers.specs.CAnswers.{besides}
 
@@ -86,6 +87,13 @@ rangeTo first last old = andThen (0, 0) old last (λ b. outcome (rangeAnswer fir
 
 unfoldable pub rangeInto : List ℕ → List ℕ → List ℕ → Outcome (ℕ × ℕ)
 rangeInto first last old = andThen (0, 0) old (octetsAnswer first) (λ a. rangeTo a (octetsAnswer last) old)
+
+-- `nibharrow_gather`, `nibharrow_uncovered`: the family number comes with the records
+unfoldable pub gatherInto : ℕ → List ℕ → List ℕ → Outcome (ℕ × ℕ)
+gatherInto f records old = outcome (gatherAnswer f records old) (gatherLeaves f records old)
+
+unfoldable pub uncoveredInto : ℕ → List ℕ → List ℕ → Outcome (ℕ × ℕ)
+uncoveredInto f records old = outcome (uncoveredAnswer f records old) (uncoveredLeaves f records old)
 
 -- `nibharrow_refusal_text`
 unfoldable pub wordsInto : ℕ → List ℕ → Outcome ℕ

@@ -5,7 +5,7 @@ ghost use Rattle.text.specs.Strict.{strictAnswer};
 ghost use Rattle.loose.specs.Loose.{looseAnswer};
 ghost use Rattle.classes.specs.Classes.{joinAnswer};
 ghost use Rattle.c_answers.specs.CAnswers.{writtenAnswer, networkReadAnswer, networkHostAnswer, blockReadAnswer, blocksWrittenAnswer};
-ghost use Rattle.nibharrow.specs.Interface.{outcome, addressInto, addressWritten, networkInto, networkWritten, octetsSplit, blockInto, blockWritten, rangeTo, rangeInto, wordsInto};
+ghost use Rattle.nibharrow.specs.Interface.{outcome, addressInto, addressWritten, networkInto, networkWritten, octetsSplit, blockInto, blockWritten, rangeTo, rangeInto, gatherInto, uncoveredInto, wordsInto};
 use address::Address;
 use address::Block;
 use address::BlockReading;
@@ -28,6 +28,8 @@ use c_answers::refused;
 use classes::Splitting;
 use classes::join;
 use classes::split;
+use gather::gather;
+use gather::uncovered;
 use loose::read_loose;
 use network::read_network;
 use network::write_network;
@@ -154,6 +156,20 @@ pub extern "C" fn nibharrow_range_blocks(first: &[u8], last: &[u8], out: &mut [u
         Reading::Read(a) => put_range(a, read_octets(last), out),
         Reading::Refused(e) => as_blocks_written(BlocksWriting::Refused(e)),
     }
+}
+
+#[no_mangle]
+pub extern "C" fn nibharrow_gather(records: &[u8], family: u32, out: &mut [u8]) -> BlocksWritten
+    ensures { λ r. ⌜ outcome (blocksWrittenAnswer r) (now (out .exit)) ≡ gatherInto family (now (records .entry)) (now (out .entry)) ⌝ }
+{
+    as_blocks_written(gather(as_byte(family), records, out))
+}
+
+#[no_mangle]
+pub extern "C" fn nibharrow_uncovered(records: &[u8], family: u32, out: &mut [u8]) -> BlocksWritten
+    ensures { λ r. ⌜ outcome (blocksWrittenAnswer r) (now (out .exit)) ≡ uncoveredInto family (now (records .entry)) (now (out .entry)) ⌝ }
+{
+    as_blocks_written(uncovered(as_byte(family), records, out))
 }
 
 #[no_mangle]
