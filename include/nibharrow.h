@@ -17,10 +17,14 @@
  * Addresses are bytes in network order: 4 of IPv4, as struct in_addr has them, or 16 of IPv6, as struct in6_addr has
  * them. Any other number of bytes is no address, refusal 2.
  *
+ * A record is a block as bytes: the 4 or 16 bytes of its address, then one byte with its prefix length. A list is
+ * records of one family, end to end. A call on records is told their family, 4 or 6, and takes up to 512 of them.
+ *
  * Answers. Each begins with `refusal`: 0 for a good answer, or one of the numbers below. Where it is not 0 every other
  * field is 0, and no byte of a lent buffer has changed. A good answer changes only the bytes it counts, at the start of
  * the buffer. Where several refusals hold, the first of 9, 1, 2, 4, 5, 6, 7, 8, 3 is given; bytes that are no address
- * have no family, so 9 is given of addresses alone. Answers may have padding: compare them field by field.
+ * have no family, so 9 is given of addresses alone. A call on records gives the first of 9, 2 and 10, then the number
+ * of the first bad record, 4 before 5, then 3. Answers may have padding: compare them field by field.
  */
 #ifndef NIBHARROW_H
 #define NIBHARROW_H
@@ -34,26 +38,33 @@ extern "C" {
 
 enum nibharrow_refusal {
     NIBHARROW_TEXT_TOO_LONG = 1,      /* the text is longer than 64 bytes */
-    NIBHARROW_MALFORMED = 2,          /* the text is not of the form asked for; 4 or 16 bytes are an address, no others */
+    NIBHARROW_MALFORMED = 2,          /* the text is not of the form asked for; the bytes are no address, or no records */
     NIBHARROW_NO_ROOM = 3,            /* the buffer is shorter than the answer */
     NIBHARROW_LENGTH_TOO_LARGE = 4,   /* a length or size is above 32 for IPv4, or above 128 for IPv6 */
     NIBHARROW_BITS_BEYOND_LENGTH = 5, /* a block's address has a one bit beyond its length */
     NIBHARROW_NO_CLASS = 6,           /* an address that begins with bits 111, or a network number of no class */
     NIBHARROW_HOST_TOO_LARGE = 7,     /* the host number is too large for the class of its network number */
     NIBHARROW_FIRST_ABOVE_LAST = 8,   /* the first address of a range is above the last */
-    NIBHARROW_WRONG_FAMILY = 9,       /* not family 4, 6 or 0; the ends of a range differ; IPv6 where only IPv4 is meant */
-    NIBHARROW_TOO_MANY = 10           /* more entries than the call takes */
+    NIBHARROW_WRONG_FAMILY = 9,       /* not 4, 6 or 0, or 0 of records; a range's ends differ; IPv6 where IPv4 is meant */
+    NIBHARROW_TOO_MANY = 10           /* more than 512 records */
 };
 
+/* The most records that a call takes. */
+#define NIBHARROW_MOST_RECORDS 512
+
 /* Room that always suffices, in bytes. */
-#define NIBHARROW_ADDRESS_ROOM 16       /* the bytes of an address */
-#define NIBHARROW_TEXT_ROOM 39          /* the text of an address */
-#define NIBHARROW_NETWORK_ROOM 4        /* the bytes of a network */
-#define NIBHARROW_NETWORK_TEXT_ROOM 18  /* the text of a network */
-#define NIBHARROW_BLOCK_TEXT_ROOM 43    /* the text of a block */
-#define NIBHARROW_RANGE_ROOM_4 310      /* the records of a range of IPv4 addresses: 62 of 5 bytes */
-#define NIBHARROW_RANGE_ROOM_6 4318     /* the records of a range of IPv6 addresses: 254 of 17 bytes */
-#define NIBHARROW_REFUSAL_TEXT_ROOM 54  /* the words of a refusal */
+#define NIBHARROW_ADDRESS_ROOM 16           /* the bytes of an address */
+#define NIBHARROW_TEXT_ROOM 39              /* the text of an address */
+#define NIBHARROW_NETWORK_ROOM 4            /* the bytes of a network */
+#define NIBHARROW_NETWORK_TEXT_ROOM 18      /* the text of a network */
+#define NIBHARROW_BLOCK_TEXT_ROOM 43        /* the text of a block */
+#define NIBHARROW_RANGE_ROOM_4 310          /* the records of a range of IPv4 addresses: 62 of 5 bytes */
+#define NIBHARROW_RANGE_ROOM_6 4318         /* the records of a range of IPv6 addresses: 254 of 17 bytes */
+#define NIBHARROW_GATHER_ROOM_4 2560        /* the records of a gathered list of IPv4: 512 of 5 bytes */
+#define NIBHARROW_GATHER_ROOM_6 8704        /* the records of a gathered list of IPv6: 512 of 17 bytes */
+#define NIBHARROW_UNCOVERED_ROOM_4 79365    /* what a list of IPv4 does not cover: at most 15,873 records of 5 bytes */
+#define NIBHARROW_UNCOVERED_ROOM_6 1105425  /* what a list of IPv6 does not cover: at most 65,025 records of 17 bytes */
+#define NIBHARROW_REFUSAL_TEXT_ROOM 54      /* the words of a refusal */
 
 /* `bytes` is how many bytes the call has written to the start of `out`; for an address 4 (IPv4) or 16 (IPv6). */
 typedef struct nibharrow_written {
@@ -155,6 +166,23 @@ nibharrow_written nibharrow_write_block(const uint8_t *address, size_t address_l
  * Refusals: 9 where the families of two addresses differ, 2, 8, 3.
  */
 nibharrow_blocks_written nibharrow_range_blocks(const uint8_t *first, size_t first_length, const uint8_t *last, size_t last_length, uint8_t *out, size_t out_length);
+
+/*
+ * Gathers a list, whose blocks may overlap and stand in any order: writes the fewest blocks that cover the same
+ * addresses and no others to `out`, as records in rising order. There are never more of them than the list has, so a
+ * buffer as long as the list suffices. An empty list gathers to nothing.
+ * Refusals: 9 where `family` is not 4 or 6, 2 where the bytes are no whole number of records, 10, 4 or 5, 3.
+ */
+nibharrow_blocks_written nibharrow_gather(const uint8_t *records, size_t records_length, uint32_t family, uint8_t *out, size_t out_length);
+
+/*
+ * Writes what a list does not cover to `out`: the fewest blocks that cover every other address of the family and none of
+ * the list's, as records in rising order. Of an empty list that is the one block of length 0, and of a list that covers
+ * all it is nothing. Where it has at most 512 records, the same call on these gives what nibharrow_gather gives of the
+ * list.
+ * Refusals: 9 where `family` is not 4 or 6, 2 where the bytes are no whole number of records, 10, 4 or 5, 3.
+ */
+nibharrow_blocks_written nibharrow_uncovered(const uint8_t *records, size_t records_length, uint32_t family, uint8_t *out, size_t out_length);
 
 /*
  * Writes a refusal in words to `out`.

@@ -46,5 +46,7 @@ calls! {
     read_block = nibharrow_read_block(text; ; out) -> BlockRead;
     write_block = nibharrow_write_block(address; length; out) -> Written;
     range_blocks = nibharrow_range_blocks(first last; ; out) -> BlocksWritten;
+    gather = nibharrow_gather(records; family; out) -> BlocksWritten;
+    uncovered = nibharrow_uncovered(records; family; out) -> BlocksWritten;
     refusal_text = nibharrow_refusal_text(; number; out) -> Written;
 }

@@ -108,5 +108,19 @@ extern "C" {
         out: *mut u8,
         out_length: usize,
     ) -> BlocksWritten;
+    pub fn nibharrow_gather(
+        records: *const u8,
+        records_length: usize,
+        family: u32,
+        out: *mut u8,
+        out_length: usize,
+    ) -> BlocksWritten;
+    pub fn nibharrow_uncovered(
+        records: *const u8,
+        records_length: usize,
+        family: u32,
+        out: *mut u8,
+        out_length: usize,
+    ) -> BlocksWritten;
     pub fn nibharrow_refusal_text(number: u32, out: *mut u8, out_length: usize) -> Written;
 }

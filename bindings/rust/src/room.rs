@@ -14,5 +14,15 @@ pub const BLOCK_TEXT: usize = 43;
 pub const RANGE_4: usize = 310;
 /// The records of a range of IPv6 addresses: 254 of 17 bytes.
 pub const RANGE_6: usize = 4318;
+/// The records of a gathered list of IPv4: 512 of 5 bytes. As many bytes as the list has suffice
+/// too, since it is never longer gathered.
+pub const GATHER_4: usize = 2560;
+/// The records of a gathered list of IPv6: 512 of 17 bytes. As many bytes as the list has suffice
+/// too, since it is never longer gathered.
+pub const GATHER_6: usize = 8704;
+/// What a list of IPv4 does not cover: at most 15,873 records of 5 bytes.
+pub const UNCOVERED_4: usize = 79_365;
+/// What a list of IPv6 does not cover: at most 65,025 records of 17 bytes.
+pub const UNCOVERED_6: usize = 1_105_425;
 /// The text of a refusal.
 pub const REFUSAL_TEXT: usize = 54;

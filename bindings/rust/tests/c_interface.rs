@@ -90,6 +90,10 @@ fn values() -> String {
         ("BLOCK_TEXT_ROOM", room::BLOCK_TEXT),
         ("RANGE_ROOM_4", room::RANGE_4),
         ("RANGE_ROOM_6", room::RANGE_6),
+        ("GATHER_ROOM_4", room::GATHER_4),
+        ("GATHER_ROOM_6", room::GATHER_6),
+        ("UNCOVERED_ROOM_4", room::UNCOVERED_4),
+        ("UNCOVERED_ROOM_6", room::UNCOVERED_6),
         ("REFUSAL_TEXT_ROOM", room::REFUSAL_TEXT),
         ("TEXT_TOO_LONG", Refusal::TextTooLong as usize),
         ("MALFORMED", Refusal::Malformed as usize),
@@ -100,6 +104,7 @@ fn values() -> String {
         ("HOST_TOO_LARGE", Refusal::HostTooLarge as usize),
         ("FIRST_ABOVE_LAST", Refusal::FirstAboveLast as usize),
         ("WRONG_FAMILY", Refusal::WrongFamily as usize),
+        ("TOO_MANY", Refusal::TooMany as usize),
     ];
     let line = |(name, value)| format!("NIBHARROW_{name} {value}\n");
     values.map(line).concat()
@@ -183,7 +188,7 @@ fn functions_of_raw() -> Vec<String> {
 #[test]
 fn functions_are_those_of_the_header() {
     let functions = functions_of_header();
-    assert_eq!(functions.len(), 11);
+    assert_eq!(functions.len(), 13);
     assert_eq!(functions, functions_of_raw());
 }
 

@@ -13,6 +13,8 @@
 #define FOUR bytes, 4
 #define FIVE bytes, 5
 #define SIXTEEN bytes, 16
+#define ALL_4 all, 5
+#define ALL_6 all, 17
 
 /* Most answers are a nibharrow_written. The others have two fields behind `refusal`, which are named. */
 #define WRITTEN(call) \
@@ -29,6 +31,7 @@
 int main(void)
 {
     static const uint8_t bytes[16] = {10, 0, 0, 12};
+    static const uint8_t all[17]; /* the block of length 0, as a record of either family */
 
     WRITTEN(read_address(NOTHING, 0, NOTHING));
     WRITTEN(read_address(TEXT("10.0.0.12"), 0, NOTHING));
@@ -50,6 +53,14 @@ int main(void)
     ANSWER(blocks_written, range_blocks(FOUR, NOTHING, NOTHING), blocks, bytes);
     ANSWER(blocks_written, range_blocks(NOTHING, FOUR, NOTHING), blocks, bytes);
     ANSWER(blocks_written, range_blocks(FOUR, FOUR, NOTHING), blocks, bytes);
+    ANSWER(blocks_written, gather(NOTHING, 4, NOTHING), blocks, bytes);
+    ANSWER(blocks_written, gather(ALL_4, 4, NOTHING), blocks, bytes);
+    ANSWER(blocks_written, gather(NOTHING, 6, NOTHING), blocks, bytes);
+    ANSWER(blocks_written, gather(ALL_6, 6, NOTHING), blocks, bytes);
+    ANSWER(blocks_written, uncovered(NOTHING, 4, NOTHING), blocks, bytes);
+    ANSWER(blocks_written, uncovered(ALL_4, 4, NOTHING), blocks, bytes);
+    ANSWER(blocks_written, uncovered(NOTHING, 6, NOTHING), blocks, bytes);
+    ANSWER(blocks_written, uncovered(ALL_6, 6, NOTHING), blocks, bytes);
     WRITTEN(refusal_text(0, NOTHING));
     WRITTEN(refusal_text(1, NOTHING));
 
@@ -66,6 +77,12 @@ int main(void)
     ANSWER(blocks_written, range_blocks(FOUR, FIVE, NOTHING), blocks, bytes);
     ANSWER(blocks_written, range_blocks(FIVE, SIXTEEN, NOTHING), blocks, bytes);
     ANSWER(blocks_written, range_blocks(FOUR, SIXTEEN, NOTHING), blocks, bytes);
+    ANSWER(blocks_written, gather(NOTHING, 5, NOTHING), blocks, bytes);
+    ANSWER(blocks_written, gather(ALL_4, 256 + 4, NOTHING), blocks, bytes);
+    ANSWER(blocks_written, gather(FOUR, 256 + 6, NOTHING), blocks, bytes);
+    ANSWER(blocks_written, uncovered(NOTHING, 5, NOTHING), blocks, bytes);
+    ANSWER(blocks_written, uncovered(ALL_4, 256 + 4, NOTHING), blocks, bytes);
+    ANSWER(blocks_written, uncovered(FOUR, 256 + 6, NOTHING), blocks, bytes);
     WRITTEN(refusal_text(256 + 1, NOTHING));
     return 0;
 }
