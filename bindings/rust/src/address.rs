@@ -5,10 +5,10 @@ use crate::raw::Written;
 use crate::refusal::checked;
 use crate::{exact, room, Refusal};
 
-/// Which addresses [`read_address_of`] takes.
+/// Which addresses [`read_address_of`] takes, and of which family a list of blocks is.
 #[derive(Clone, Copy, Debug, Default, PartialEq, Eq, Hash)]
 pub enum Family {
-    /// IPv4 and IPv6. No text is both, since only IPv6 text has a colon.
+    /// IPv4 and IPv6. No text is both, since only IPv6 text has a colon. No list is of either.
     #[default]
     Either = 0,
     /// IPv4 alone.

@@ -4,7 +4,7 @@ use std::str::FromStr;
 
 use crate::lend::{address_of, granted, lend, text_in, with_octets};
 use crate::refusal::checked;
-use crate::{exact, room, Refusal};
+use crate::{exact, room, Family, Refusal};
 
 /// A block: an address and a prefix length, where the address has no one bit beyond the length.
 ///
@@ -61,6 +61,14 @@ impl Block {
     /// The prefix length in bits, at most 32 for IPv4 and 128 for IPv6.
     pub fn length(&self) -> u8 {
         self.length
+    }
+
+    /// The family of the block, which is not [`Family::Either`].
+    pub fn family(&self) -> Family {
+        match self.address {
+            IpAddr::V4(_) => Family::V4,
+            IpAddr::V6(_) => Family::V6,
+        }
     }
 
     /// Whether the block covers an address: one of its family whose first bits, as many as the

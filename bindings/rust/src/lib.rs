@@ -13,6 +13,8 @@
 //! | the classes A, B and C | [`split`], [`join`] |
 //! | the text of a block | [`Block`], [`read_block`], [`write_block_into`] |
 //! | a range into the fewest blocks | [`range_blocks`], [`range_records`] |
+//! | a list into the fewest blocks | [`gather`], [`gather_records`] |
+//! | what a list does not cover | [`uncovered`], [`uncovered_records`] |
 //!
 //! ```
 //! use nibharrow::{range_blocks, read_address, write_address, Refusal};
@@ -32,15 +34,16 @@
 //! Text is any bytes, a `&str` or a `&[u8]`, of at most 64. A zero byte in it or a blank around it
 //! is a wrong byte.
 //!
-//! A call whose name ends in `_into`, and [`range_records`], writes to a buffer of the caller's and
-//! allocates nothing. A good answer changes only the bytes it counts, at the start of the buffer; a
-//! refused call changes none. [`room`] has the sizes that always suffice. [`exact`] has the calls of
-//! the C interface on slices, with every field of their answers.
+//! A call whose name ends in `_into` or `_records` writes to a buffer of the caller's and allocates
+//! nothing. A good answer changes only the bytes it counts, at the start of the buffer; a refused
+//! call changes none. [`room`] has the sizes that always suffice. [`exact`] has the calls of the C
+//! interface on slices, with every field of their answers.
 //!
 //! Where several refusals hold, the first of `WrongFamily`, `TextTooLong`, `Malformed`,
 //! `LengthTooLarge`, `BitsBeyondLength`, `NoClass`, `HostTooLarge`, `FirstAboveLast`, `NoRoom` is
-//! given. No call panics, whatever it is handed. None keeps state, so all may be made from several
-//! threads at once.
+//! given. Of a list it is the first of `WrongFamily`, `Malformed` and `TooMany`, then that of the
+//! first bad record, `LengthTooLarge` before `BitsBeyondLength`, then `NoRoom`. No call panics,
+//! whatever it is handed. None keeps state, so all may be made from several threads at once.
 //!
 //! # What is proved, and what is not
 //!
@@ -50,8 +53,9 @@
 //!
 //! The proof does not cover the C boundary, where a pointer and a length become a slice, nor the code
 //! of this crate: that the declarations in [`raw`] agree with the library, that each buffer is lent
-//! as the header asks, the conversions between bytes and the types of the standard library, and
-//! [`Block::contains`]. Tests check these. `docs/TRUST.md` says what the proof itself rests on.
+//! as the header asks, the conversions between bytes and the types of the standard library, that the
+//! blocks handed to [`gather`] and [`uncovered`] are of one family, and [`Block::contains`]. Tests
+//! check these. `docs/TRUST.md` says what the proof itself rests on.
 //!
 //! # Linking
 //!
@@ -66,11 +70,13 @@ mod address;
 mod block;
 mod classes;
 pub mod exact;
+mod gather;
 mod lend;
 mod loose;
 mod network;
 mod range;
 pub mod raw;
+mod records;
 mod refusal;
 pub mod room;
 
@@ -79,7 +85,9 @@ pub use address::{
 };
 pub use block::{read_block, write_block_into, Block};
 pub use classes::{join, split};
+pub use gather::{gather, gather_records, uncovered, uncovered_records};
 pub use loose::read_loose;
 pub use network::{read_network, write_network, write_network_into, Network};
-pub use range::{range_blocks, range_records, Records};
+pub use range::{range_blocks, range_records};
+pub use records::{Records, MOST_RECORDS};
 pub use refusal::Refusal;

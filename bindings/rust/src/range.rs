@@ -2,30 +2,7 @@ use std::net::IpAddr;
 
 use crate::lend::with_octets;
 use crate::refusal::checked;
-use crate::{exact, room, Block, Refusal};
-
-/// The blocks of a range as the library writes them: records of 4 or 16 bytes of the address and
-/// one byte with the prefix length, in rising order, end to end.
-#[derive(Clone, Copy, Debug, PartialEq, Eq)]
-pub struct Records<'a> {
-    bytes: &'a [u8],
-    // How many bytes the address of each record has.
-    address: usize,
-}
-
-impl<'a> Records<'a> {
-    /// The bytes of all records.
-    pub fn as_bytes(self) -> &'a [u8] {
-        self.bytes
-    }
-
-    /// The block of each record.
-    pub fn blocks(self) -> impl ExactSizeIterator<Item = Block> + DoubleEndedIterator + 'a {
-        self.bytes
-            .chunks_exact(self.address + 1)
-            .map(move |record| Block::answered(&record[..self.address], record[self.address]))
-    }
-}
+use crate::{exact, room, Block, Records, Refusal};
 
 /// Turns the range from `first` to `last`, both inclusive, into the fewest blocks that cover it and
 /// nothing else.
@@ -70,8 +47,6 @@ pub fn range_records(first: IpAddr, last: IpAddr, out: &mut [u8]) -> Result<Reco
     let written = with_octets(first, |first| {
         with_octets(last, |last| checked(exact::range_blocks(first, last, out)))
     })?;
-    Ok(Records {
-        bytes: &out[..written.bytes],
-        address: with_octets(first, <[u8]>::len),
-    })
+    let address = with_octets(first, <[u8]>::len);
+    Ok(Records::answered(&out[..written.bytes], address))
 }

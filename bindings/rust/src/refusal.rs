@@ -21,7 +21,8 @@ use crate::{exact, room};
 pub enum Refusal {
     /// The text is longer than 64 bytes.
     TextTooLong = 1,
-    /// The text is not of the form asked for. The empty text is of no form.
+    /// The text is not of the form asked for, or the bytes are no whole number of records. The empty
+    /// text is of no form.
     Malformed = 2,
     /// The buffer is shorter than the answer.
     NoRoom = 3,
@@ -35,11 +36,12 @@ pub enum Refusal {
     HostTooLarge = 7,
     /// The first address of a range is above the last.
     FirstAboveLast = 8,
-    /// The ends of a range differ in family. The other wrong families of the C interface, a family
-    /// number that is not 4, 6 or 0 and an IPv6 address where only IPv4 is meant, cannot be handed
-    /// to the calls of this crate.
+    /// The ends of a range differ in family, or a block of a list is not of the list's, or that is
+    /// [`Family::Either`](crate::Family::Either). The other wrong families of the C interface, a
+    /// family number that is not 4, 6 or 0 and an IPv6 address where only IPv4 is meant, cannot be
+    /// handed to the calls of this crate.
     WrongFamily = 9,
-    /// There are more entries than the call takes.
+    /// A list has more than 512 blocks, [`MOST_RECORDS`](crate::MOST_RECORDS).
     TooMany = 10,
 }
 

@@ -7,7 +7,7 @@ use std::path::{Path, PathBuf};
 use std::process::{Command, Output};
 use std::{env, fs};
 
-use nibharrow::{raw, room, Refusal};
+use nibharrow::{raw, room, Refusal, MOST_RECORDS};
 
 /// Every warning is an error.
 const STRICT: [&str; 4] = ["-Wall", "-Wextra", "-pedantic", "-Werror"];
@@ -83,6 +83,7 @@ fn layouts() -> String {
 
 fn values() -> String {
     let values = [
+        ("MOST_RECORDS", MOST_RECORDS),
         ("ADDRESS_ROOM", room::ADDRESS),
         ("TEXT_ROOM", room::TEXT),
         ("NETWORK_ROOM", room::NETWORK),

@@ -362,3 +362,190 @@ fn records_of_ranges() {
     assert_eq!(range_records(first, last, &mut out), Err(NoRoom));
     assert_eq!(out, [b'?'; 19]);
 }
+
+fn blocks(texts: &[&str]) -> Vec<Block> {
+    texts.iter().map(|text| block(text)).collect()
+}
+
+/// The records of blocks.
+fn records(blocks: &[Block]) -> Vec<u8> {
+    let mut records = Vec::new();
+    for block in blocks {
+        match block.address() {
+            IpAddr::V4(address) => records.extend(address.octets()),
+            IpAddr::V6(address) => records.extend(address.octets()),
+        }
+        records.push(block.length());
+    }
+    records
+}
+
+/// Lists, what they gather to, and what they do not cover.
+const LISTS: [(&[&str], &[&str], &[&str]); 8] = [
+    (&["0.0.0.0/0"], &["0.0.0.0/0"], &[]),
+    (&["::/0", "::1/128", "ffff::/16", "::/0"], &["::/0"], &[]),
+    (&["128.0.0.0/1", "0.0.0.0/1"], &["0.0.0.0/0"], &[]),
+    (
+        &["64.0.0.0/2", "96.0.0.0/3", "64.0.0.0/2", "64.0.0.0/32"],
+        &["64.0.0.0/2"],
+        &["0.0.0.0/2", "128.0.0.0/1"],
+    ),
+    // They touch, and are not the halves of one block.
+    (
+        &["128.0.0.0/2", "64.0.0.0/2"],
+        &["64.0.0.0/2", "128.0.0.0/2"],
+        &["0.0.0.0/2", "192.0.0.0/2"],
+    ),
+    // Two halves make a half of another.
+    (&["2000::/3", "4000::/2", "::/3"], &["::/1"], &["8000::/1"]),
+    (
+        &["c000::/2", "e000::/3", "a000::/3", "::/2"],
+        &["::/2", "a000::/3", "c000::/2"],
+        &["4000::/2", "8000::/3"],
+    ),
+    (
+        &["240.0.0.0/4", "0.0.0.0/4", "16.0.0.0/5"],
+        &["0.0.0.0/4", "16.0.0.0/5", "240.0.0.0/4"],
+        &[
+            "24.0.0.0/5",
+            "32.0.0.0/3",
+            "64.0.0.0/2",
+            "128.0.0.0/2",
+            "192.0.0.0/3",
+            "224.0.0.0/4",
+        ],
+    ),
+];
+
+#[test]
+fn lists() {
+    for (list, gathered, free) in LISTS {
+        let (list, gathered, free) = (blocks(list), blocks(gathered), blocks(free));
+        let family = list[0].family();
+        assert_eq!(gather(&list), Ok(gathered.clone()));
+        assert_eq!(gather(&gathered), Ok(gathered.clone()));
+        assert_eq!(uncovered(family, &list), Ok(free.clone()));
+        assert_eq!(uncovered(family, &gathered), Ok(free.clone()));
+        assert_eq!(uncovered(family, &free), Ok(gathered));
+        assert_eq!(gather(&free), Ok(free));
+    }
+    assert_eq!(gather(&[]), Ok(vec![]));
+    assert_eq!(uncovered(Family::V4, &[]), Ok(blocks(&["0.0.0.0/0"])));
+    assert_eq!(uncovered(Family::V6, &[]), Ok(blocks(&["::/0"])));
+}
+
+#[test]
+fn families_of_lists() {
+    let (four, six) = (block("10.0.0.0/8"), block("::/8"));
+    assert_eq!((four.family(), six.family()), (Family::V4, Family::V6));
+    for list in [[four, six], [six, four]] {
+        assert_eq!(gather(&list), Err(WrongFamily));
+        for family in [Family::V4, Family::V6, Family::Either] {
+            assert_eq!(uncovered(family, &list), Err(WrongFamily));
+        }
+    }
+    assert_eq!(uncovered(Family::V4, &[six]), Err(WrongFamily));
+    assert_eq!(uncovered(Family::V6, &[four]), Err(WrongFamily));
+    for list in [&[][..], &[four], &[six]] {
+        assert_eq!(uncovered(Family::Either, list), Err(WrongFamily));
+    }
+}
+
+#[test]
+fn longest_lists() {
+    for text in ["10.0.0.0/8", "fe80::/10"] {
+        let mut list = vec![block(text); MOST_RECORDS];
+        let family = list[0].family();
+        assert_eq!(gather(&list), Ok(blocks(&[text])));
+        assert_eq!(
+            uncovered(family, &list).map(|free| free.len()),
+            Ok(list[0].length().into())
+        );
+        list.push(list[0]);
+        assert_eq!(gather(&list), Err(TooMany));
+        assert_eq!(uncovered(family, &list), Err(TooMany));
+        // A wrong family is what a call asks about first.
+        list.push(block(if family == Family::V4 {
+            "::/0"
+        } else {
+            "0.0.0.0/0"
+        }));
+        assert_eq!(gather(&list), Err(WrongFamily));
+        assert_eq!(uncovered(family, &list), Err(WrongFamily));
+    }
+}
+
+type RecordsCall = for<'a> fn(Family, &[u8], &'a mut [u8]) -> Result<Records<'a>, Refusal>;
+
+#[test]
+fn records_of_lists() {
+    for (list, gathered, free) in LISTS {
+        let list = blocks(list);
+        let family = list[0].family();
+        for (call, expected) in [
+            (gather_records as RecordsCall, blocks(gathered)),
+            (uncovered_records, blocks(free)),
+        ] {
+            let (list, bytes) = (records(&list), records(&expected));
+            let mut out = vec![b'?'; bytes.len() + 4];
+            let answer = call(family, &list, &mut out).unwrap();
+            assert_eq!(answer.as_bytes(), bytes);
+            assert_eq!(answer.family(), family);
+            assert!(answer.blocks().eq(expected));
+            assert_eq!(out[bytes.len()..], [b'?'; 4]);
+
+            let mut out = vec![b'?'; bytes.len()];
+            assert!(call(family, &list, &mut out).is_ok());
+            if let Some(less) = bytes.len().checked_sub(1) {
+                let mut out = vec![b'?'; less];
+                assert_eq!(call(family, &list, &mut out), Err(NoRoom));
+                assert!(out.iter().all(|byte| *byte == b'?'));
+            }
+        }
+    }
+}
+
+/// Of an answer that is handed back, what it does not cover is what the answer was made of.
+#[test]
+fn records_handed_back() {
+    let (mut free, mut back) = ([0; room::RANGE_4], [0; room::RANGE_4]);
+    let mut range = [0; room::RANGE_4];
+    let range = range_records(ip("10.0.0.1"), ip("10.0.0.6"), &mut range).unwrap();
+    let outside = range.uncovered(&mut free).unwrap();
+    assert_eq!(outside.blocks().next(), Some(block("0.0.0.0/5")));
+    assert_eq!(outside.uncovered(&mut back), Ok(range));
+    assert_eq!(range.uncovered(&mut []), Err(NoRoom));
+}
+
+#[test]
+fn refusals_of_records() {
+    const GOOD: [u8; 5] = [10, 0, 0, 0, 8];
+    const LONG: [u8; 5] = [10, 0, 0, 0, 33];
+    const BEYOND: [u8; 5] = [10, 0, 0, 1, 31];
+    // Both hold of it, and the length is asked about first.
+    const BOTH: [u8; 5] = [10, 0, 0, 1, 255];
+    for call in [gather_records as RecordsCall, uncovered_records] {
+        for (records, refusal) in [
+            ([GOOD, LONG, BEYOND].concat(), LengthTooLarge),
+            ([GOOD, BEYOND, LONG].concat(), BitsBeyondLength),
+            ([GOOD, BOTH].concat(), LengthTooLarge),
+            ([LONG; MOST_RECORDS].concat(), LengthTooLarge),
+            ([LONG; MOST_RECORDS + 1].concat(), TooMany),
+            (
+                [&[LONG; MOST_RECORDS + 1].concat()[..], &[1]].concat(),
+                Malformed,
+            ),
+            (GOOD[..4].to_vec(), Malformed),
+            (GOOD.to_vec(), NoRoom),
+        ] {
+            assert_eq!(call(Family::V4, &records, &mut []), Err(refusal));
+            assert_eq!(call(Family::Either, &records, &mut []), Err(WrongFamily));
+        }
+        // Seventeen bytes are no whole number of records of IPv4, nor five of IPv6.
+        assert_eq!(call(Family::V4, &[0; 17], &mut [0; 85]), Err(Malformed));
+        assert_eq!(call(Family::V6, &[0; 5], &mut [0; 85]), Err(Malformed));
+        assert!(call(Family::V4, &[0; 85], &mut [0; 85]).is_ok());
+        assert!(call(Family::V6, &[0; 85], &mut [0; 85]).is_ok());
+        assert_eq!(call(Family::Either, &[], &mut []), Err(WrongFamily));
+    }
+}

@@ -136,3 +136,59 @@ fn any_range_is_covered() {
         }
     }
 }
+
+/// A block of a family that often overlaps or touches the others: of few bits, at either end of the
+/// addresses or anywhere.
+fn near_block(numbers: &mut Numbers, bits: u32, place: u128) -> Block {
+    let most = u128::MAX >> (128 - bits);
+    let free = numbers.below(5) as u32;
+    let address = place.wrapping_add(numbers.below(64) as u128) & most;
+    let address = address >> free << free;
+    let address = match bits {
+        32 => Ipv4Addr::from_bits(address as u32).into(),
+        _ => Ipv6Addr::from_bits(address).into(),
+    };
+    Block::new(address, (bits - free) as u8).unwrap()
+}
+
+/// What a list gathers to and what it does not cover are all addresses, each once.
+#[test]
+fn any_list_is_gathered() {
+    let mut numbers = Numbers(4);
+    for _ in 0..ROUNDS / 20 {
+        let bits = [32, 128][numbers.below(2)];
+        let most = u128::MAX >> (128 - bits);
+        let place = [0, most - 40, most / 3][numbers.below(3)];
+        let list: Vec<Block> = (0..1 + numbers.below(20))
+            .map(|_| near_block(&mut numbers, bits, place))
+            .collect();
+        let gathered = gather(&list).unwrap();
+        let free = uncovered(list[0].family(), &list).unwrap();
+
+        assert!(gathered.len() <= list.len());
+        let covers = |blocks: &[Block], address| blocks.iter().any(|b| b.contains(address));
+        for block in &gathered {
+            assert!(covers(&list, block.address()));
+        }
+        for block in &free {
+            assert!(!covers(&list, block.address()));
+        }
+        // A block lies in one of the fewest.
+        for block in &list {
+            let inside = |b: &&Block| b.contains(block.address()) && b.length() <= block.length();
+            assert_eq!(gathered.iter().filter(inside).count(), 1);
+        }
+
+        let mut both = [&gathered[..], &free].concat();
+        both.sort_by_key(Block::address);
+        assert_eq!(number(both[0].address()), 0);
+        for pair in both.windows(2) {
+            assert_eq!(last_of(pair[0]) + 1, number(pair[1].address()));
+        }
+        assert_eq!(last_of(both[both.len() - 1]), most);
+
+        assert_eq!(gather(&gathered).as_ref(), Ok(&gathered));
+        let twice = uncovered(list[0].family(), &free);
+        assert_eq!(twice.as_ref(), Ok(&gathered));
+    }
+}

@@ -1,4 +1,5 @@
-//! The sizes of `room` always suffice, and the longest answers need all of them.
+//! The sizes of `room` always suffice, and the longest answers need all of them. Of what a list does
+//! not cover no list is known that leaves as much as there is room for.
 
 use std::net::{IpAddr, Ipv4Addr, Ipv6Addr};
 
@@ -70,4 +71,52 @@ fn longest_ranges() {
     let first_6 = Ipv6Addr::from_bits(1).into();
     let last_6 = Ipv6Addr::from_bits(u128::MAX - 1).into();
     range_fills(room::RANGE_6, 254, first_6, last_6);
+}
+
+/// Records of as many single addresses as a list may have, the last of each equal part of the
+/// addresses.
+fn spread(octets: usize) -> Vec<u8> {
+    let mut list = Vec::new();
+    for part in 0..MOST_RECORDS as u128 {
+        // The number of the part in the first nine bits, and ones behind them.
+        let address = (part << 119 | u128::MAX >> 9) >> (128 - 8 * octets);
+        list.extend(&address.to_be_bytes()[16 - octets..]);
+        list.push(8 * octets as u8);
+    }
+    list
+}
+
+#[test]
+fn longest_gathered_lists() {
+    for (family, octets, room) in [
+        (Family::V4, 4, room::GATHER_4),
+        (Family::V6, 16, room::GATHER_6),
+    ] {
+        let list = spread(octets);
+        assert_eq!(list.len(), room);
+        let mut out = vec![0; room];
+        let gathered = gather_records(family, &list, &mut out).unwrap();
+        assert_eq!(gathered.as_bytes(), list);
+        assert_eq!(
+            gather_records(family, &list, &mut vec![0; room - 1]),
+            Err(Refusal::NoRoom)
+        );
+    }
+}
+
+/// One address leaves a block of each length but 0. Each of 512 that lie apart leaves one of each
+/// length from 10.
+#[test]
+fn longest_uncovered_lists() {
+    for (family, octets, room) in [
+        (Family::V4, 4, room::UNCOVERED_4),
+        (Family::V6, 16, room::UNCOVERED_6),
+    ] {
+        let (list, bits, record) = (spread(octets), 8 * octets, octets + 1);
+        let mut out = vec![0; room];
+        let uncovered = uncovered_records(family, &list[..record], &mut out).unwrap();
+        assert_eq!(uncovered.blocks().len(), bits);
+        let uncovered = uncovered_records(family, &list, &mut out).unwrap();
+        assert_eq!(uncovered.blocks().len(), MOST_RECORDS * (bits - 9));
+    }
 }

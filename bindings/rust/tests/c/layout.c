@@ -34,6 +34,8 @@ int main(void)
     FIELD(nibharrow_blocks_written, blocks);
     FIELD(nibharrow_blocks_written, bytes);
 
+    VALUE(NIBHARROW_MOST_RECORDS);
+
     VALUE(NIBHARROW_ADDRESS_ROOM);
     VALUE(NIBHARROW_TEXT_ROOM);
     VALUE(NIBHARROW_NETWORK_ROOM);
