@@ -18,11 +18,13 @@ pub enum Case {
     ReadBlock { text: Vec<u8> },
     WriteBlock { address: Vec<u8>, length: u32 },
     RangeBlocks { first: Vec<u8>, last: Vec<u8> },
+    Gather { records: Vec<u8>, family: u32 },
+    Uncovered { records: Vec<u8>, family: u32 },
     RefusalText { number: u32 },
 }
 
 /// Each call with every refusal the rules make possible for it; 0 is a good answer.
-pub const OUTCOMES: [(&str, &[u32]); 11] = [
+pub const OUTCOMES: [(&str, &[u32]); 13] = [
     ("read_address", &[0, 9, 1, 2, 3]),
     ("write_address", &[0, 2, 3]),
     ("read_loose", &[0, 1, 2, 3]),
@@ -33,11 +35,13 @@ pub const OUTCOMES: [(&str, &[u32]); 11] = [
     ("read_block", &[0, 1, 2, 4, 5, 3]),
     ("write_block", &[0, 2, 4, 5, 3]),
     ("range_blocks", &[0, 9, 2, 8, 3]),
+    ("gather", &[0, 9, 2, 10, 4, 5, 3]),
+    ("uncovered", &[0, 9, 2, 10, 4, 5, 3]),
     ("refusal_text", &[0, 2, 3]),
 ];
 
-/// The records of the longest range, and so more than any other answer.
-pub const AMPLE_ROOM: usize = 254 * 17;
+/// The records of the longest range, and so more than any other answer but one of a call on records.
+const AMPLE_ROOM: usize = 254 * 17;
 
 /// The room in which the words of every refusal fit.
 pub const REFUSAL_TEXT_ROOM: usize = 54;
@@ -111,6 +115,10 @@ fn sized(result: Result<(u32, usize), u32>) -> Answer {
     settled(result, |(size, bytes)| ([size.into(), 0], bytes))
 }
 
+fn listed(result: Result<(usize, usize), u32>) -> Answer {
+    settled(result, |(blocks, bytes)| ([blocks as u64, 0], bytes))
+}
+
 impl Case {
     pub fn name(&self) -> &'static str {
         let place = match self {
@@ -124,7 +132,9 @@ impl Case {
             Case::ReadBlock { .. } => 7,
             Case::WriteBlock { .. } => 8,
             Case::RangeBlocks { .. } => 9,
-            Case::RefusalText { .. } => 10,
+            Case::Gather { .. } => 10,
+            Case::Uncovered { .. } => 11,
+            Case::RefusalText { .. } => 12,
         };
         OUTCOMES[place].0
     }
@@ -146,6 +156,8 @@ impl Case {
                 exact::write_block(address, *length, out).into()
             }
             Case::RangeBlocks { first, last } => exact::range_blocks(first, last, out).into(),
+            Case::Gather { records, family } => exact::gather(records, *family, out).into(),
+            Case::Uncovered { records, family } => exact::uncovered(records, *family, out).into(),
             Case::RefusalText { number } => exact::refusal_text(*number, out).into(),
         }
     }
@@ -168,18 +180,32 @@ impl Case {
             Case::WriteBlock { address, length } => {
                 written(rules::write_block(address, *length, out))
             }
-            Case::RangeBlocks { first, last } => {
-                settled(rules::range_blocks(first, last, out), |(blocks, bytes)| {
-                    ([blocks as u64, 0], bytes)
-                })
-            }
+            Case::RangeBlocks { first, last } => listed(rules::range_blocks(first, last, out)),
+            Case::Gather { records, family } => listed(rules::gather(records, *family, out)),
+            Case::Uncovered { records, family } => listed(rules::uncovered(records, *family, out)),
             Case::RefusalText { number } => written(refusal_text(*number, out)),
+        }
+    }
+
+    /// Room for any good answer.
+    pub fn ample_room(&self) -> usize {
+        match self {
+            Case::Gather { records, .. } => records.len(),
+            // All is one block at first, and each record takes one apart, into as many as it has bits
+            // at most.
+            Case::Uncovered { records, family: 4 } => (1 + records.len() / 5 * 31) * 5,
+            Case::Uncovered { records, .. } => (1 + records.len() / 17 * 127) * 17,
+            _ => AMPLE_ROOM,
         }
     }
 
     /// The library's answer with room for any but the longest ranges, and the bytes it counts.
     pub fn library_ample(&self) -> (Answer, Vec<u8>) {
-        let mut out = vec![0; REFUSAL_TEXT_ROOM];
+        let room = match self {
+            Case::Gather { .. } | Case::Uncovered { .. } => self.ample_room(),
+            _ => REFUSAL_TEXT_ROOM,
+        };
+        let mut out = vec![0; room];
         let answer = self.library(&mut out);
         out.truncate(answer.bytes);
         (answer, out)
@@ -199,13 +225,18 @@ fn refusal_text(number: u32, out: &mut [u8]) -> Result<usize, u32> {
     Ok(length)
 }
 
+/// How many bytes are shown at most: all of every list that is handed in.
+const MOST_SHOWN: usize = 9_000;
+
 /// Bytes as escaped text and as hex.
 pub struct Shown<'a>(pub &'a [u8]);
 
 impl fmt::Display for Shown<'_> {
     fn fmt(&self, f: &mut fmt::Formatter<'_>) -> fmt::Result {
-        write!(f, "{} bytes \"{}\" = ", self.0.len(), self.0.escape_ascii())?;
-        self.0.iter().try_for_each(|byte| write!(f, "{byte:02x}"))
+        let shown = &self.0[..self.0.len().min(MOST_SHOWN)];
+        write!(f, "{} bytes \"{}\" = ", self.0.len(), shown.escape_ascii())?;
+        shown.iter().try_for_each(|byte| write!(f, "{byte:02x}"))?;
+        f.write_str(if shown.len() < self.0.len() { ".." } else { "" })
     }
 }
 
@@ -226,6 +257,9 @@ impl fmt::Display for Case {
                 write!(f, "{}, length {length}", Shown(address))
             }
             Case::RangeBlocks { first, last } => write!(f, "{} to {}", Shown(first), Shown(last)),
+            Case::Gather { records, family } | Case::Uncovered { records, family } => {
+                write!(f, "{}, family {family}", Shown(records))
+            }
             Case::RefusalText { number } => write!(f, "number {number}"),
         }
     }

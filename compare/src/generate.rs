@@ -2,6 +2,7 @@
 //! damaged on purpose.
 
 use crate::case::Case;
+use crate::lists::MOST_RECORDS;
 use crate::random::Random;
 
 /// The bytes that mean something in some form, and a few that only look so.
@@ -15,8 +16,14 @@ pub const HOST_EDGES: [u32; 4] = [0, 256, 65_536, 16_777_216];
 
 type TextMaker = fn(&mut Random) -> String;
 
+/// A call on records takes as long as some thirty others, so that it has one turn in a hundred.
+const RECORDS_TURN: u64 = 100;
+
 /// A random call of each kind in turn, so that none is rare.
 pub fn case(random: &mut Random, turn: u64) -> Case {
+    if turn.is_multiple_of(RECORDS_TURN) {
+        return on_records(random);
+    }
     match turn % 11 {
         0 => Case::ReadAddress {
             text: text(random, strict),
@@ -130,6 +137,133 @@ fn range(random: &mut Random) -> Case {
     };
     let (first, last) = (octets(first, width), octets(last, width));
     Case::RangeBlocks { first, last }
+}
+
+fn on_records(random: &mut Random) -> Case {
+    let width = *random.pick(&[32, 128]);
+    let mut records = records(&list(random, width), width);
+    match random.below(20) {
+        0 => spoil_record(random, width, &mut records),
+        1 => {
+            spoil_record(random, width, &mut records);
+            spoil_record(random, width, &mut records);
+        }
+        2 => records.truncate(records.len().saturating_sub(1 + random.below(17))),
+        3 => {
+            let behind = 1 + random.below(17);
+            records.extend(any_bytes(random, behind));
+        }
+        _ => {}
+    }
+    let family = match random.below(20) {
+        0 => family(random),
+        1 => *random.pick(&[4, 6]),
+        _ if width == 32 => 4,
+        _ => 6,
+    };
+    if random.percent(50) {
+        Case::Gather { records, family }
+    } else {
+        Case::Uncovered { records, family }
+    }
+}
+
+/// The first address and the length of each block as records.
+pub fn records(blocks: &[(u128, u32)], width: u32) -> Vec<u8> {
+    let record = |&(first, length): &(u128, u32)| [octets(first, width), vec![length as u8]];
+    blocks.iter().flat_map(record).flatten().collect()
+}
+
+/// Gives some record another length, or sets a bit of its address.
+fn spoil_record(random: &mut Random, width: u32, records: &mut [u8]) {
+    let octets = width as usize / 8;
+    let count = records.len() / (octets + 1);
+    if count == 0 {
+        return;
+    }
+    let start = random.below(count) * (octets + 1);
+    match random.below(3) {
+        0 => records[start + octets] = random.byte(),
+        1 => records[start + octets] = (width + 1 + random.below_u32(3)) as u8,
+        _ => records[start + random.below(octets)] |= 1 << random.below(8),
+    }
+}
+
+/// Blocks of a list: mostly few, and close together or the pieces of one block, so that they overlap,
+/// touch and make larger ones; mostly in no order, or else rising but for two at most.
+fn list(random: &mut Random, width: u32) -> Vec<(u128, u32)> {
+    let count = match random.below(100) {
+        0..=2 => 0,
+        3..=77 => 1 + random.below(6),
+        78..=97 => 1 + random.below(40),
+        98 => random.below(MOST_RECORDS),
+        _ => MOST_RECORDS - 2 + random.below(5),
+    };
+    let mut blocks: Vec<(u128, u32)> = match random.below(4) {
+        // What many that lie apart leave is long, and the sweeps have it.
+        0 if count <= 6 => (0..count).map(|_| any_block(random, width)).collect(),
+        0 | 1 => close_blocks(random, width, count),
+        _ => pieces(random, width, count),
+    };
+    if let Some(&(first, length)) = blocks.first() {
+        let place = random.below(blocks.len());
+        // Now and then one twice, or one around another.
+        match random.below(10) {
+            0 => blocks[place] = (first, length),
+            1 => blocks[place] = (cleared(first, width - length / 2), length / 2),
+            _ => {}
+        }
+    }
+    match random.below(8) {
+        0 => blocks.sort(),
+        1 if !blocks.is_empty() => {
+            blocks.sort();
+            let (one, other) = (random.below(blocks.len()), random.below(blocks.len()));
+            blocks.swap(one, other);
+        }
+        _ => {
+            for place in 0..blocks.len() {
+                blocks.swap(place, random.below(place + 1));
+            }
+        }
+    }
+    blocks
+}
+
+fn any_block(random: &mut Random, width: u32) -> (u128, u32) {
+    let length = random.below_u32(width + 1);
+    (cleared(number(random, width), width - length), length)
+}
+
+/// Blocks among a few addresses.
+fn close_blocks(random: &mut Random, width: u32, count: usize) -> Vec<(u128, u32)> {
+    let most = u128::MAX >> (128 - width);
+    let (place, bits) = (number(random, width), random.below_u32(12));
+    let block = |_| {
+        let free = random.below_u32(bits + 1);
+        let address = place.wrapping_add(random.below(1 << bits) as u128) & most;
+        (cleared(address, free), width - free)
+    };
+    (0..count).map(block).collect()
+}
+
+/// A block halved again and again, and often one piece of it left out.
+fn pieces(random: &mut Random, width: u32, count: usize) -> Vec<(u128, u32)> {
+    let length = width - random.below_u32(width + 1);
+    let mut blocks = vec![(cleared(number(random, width), width - length), length)];
+    for _ in 1..count {
+        let place = random.below(blocks.len());
+        let (first, length) = blocks[place];
+        if length < width {
+            let middle = first + (1 << (width - length - 1));
+            blocks[place] = (first, length + 1);
+            blocks.push((middle, length + 1));
+        }
+    }
+    if count == 0 || random.percent(60) {
+        blocks.swap_remove(random.below(blocks.len()));
+    }
+    blocks
 }
 
 /// An address of either family, or now and then a number of bytes that is no address.

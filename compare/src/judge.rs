@@ -1,6 +1,6 @@
 //! Puts a call to both programs in guarded buffers, compares everything, and counts the outcomes.
 
-use crate::case::{Answer, Case, Shown, AMPLE_ROOM, OUTCOMES};
+use crate::case::{Answer, Case, Shown, OUTCOMES};
 use crate::random::Random;
 use std::collections::BTreeMap;
 use std::fmt::Display;
@@ -29,13 +29,13 @@ impl Judge {
             failures: 0,
             pattern: Vec::new(),
             library_buffer: Vec::new(),
-            rules_buffer: vec![0; AMPLE_ROOM],
+            rules_buffer: Vec::new(),
         }
     }
 
     /// How many bytes a good answer takes by the rules; 0 for a refusal.
     pub fn need(&mut self, case: &Case) -> usize {
-        self.rules_buffer.resize(AMPLE_ROOM, 0);
+        self.rules_buffer.resize(case.ample_room(), 0);
         case.rules(&mut self.rules_buffer).bytes
     }
 
@@ -55,8 +55,11 @@ impl Judge {
         *self.outcomes.entry(outcome).or_default() += 1;
         let same = library == rules && self.library_buffer == self.rules_buffer;
         if !same || !self.rest_is_kept(library, before, room) {
+            let mut pairs = self.library_buffer.iter().zip(&self.rules_buffer);
+            let differs = pairs.position(|(ours, theirs)| ours != theirs);
             let lines = [
                 format!("{case}, room {room} at {before}"),
+                format!("first byte that differs {differs:?}"),
                 format!("buffer before {}", Shown(&self.pattern)),
                 format!(
                     "library {library:?}, buffer {}",

@@ -10,6 +10,8 @@ mod clib;
 mod generate;
 mod judge;
 mod known;
+mod list_sweeps;
+mod lists;
 mod peers;
 mod program;
 mod random;
@@ -79,7 +81,7 @@ fn main() -> ExitCode {
     println!("seed {}", options.seed);
     let started = Instant::now();
     let mut run = Run::new(options.seed);
-    for sweep in sweeps::SWEEPS {
+    for sweep in sweeps::SWEEPS.iter().chain(&list_sweeps::SWEEPS) {
         sweep(&mut run);
     }
     let swept = run.judge.compared;

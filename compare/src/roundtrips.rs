@@ -2,10 +2,14 @@
 
 use crate::case::{Answer, Case};
 use crate::judge::Judge;
+use crate::lists;
 
-/// Checks the way back from a good answer of a writing call, of a split or of a join. Returns
-/// whether there is one.
+/// Checks the way back from a good answer of a writing call, of a split, of a join or of a call on
+/// records. Returns whether there is one.
 pub fn check(judge: &mut Judge, case: &Case) -> bool {
+    if let Case::Gather { .. } | Case::Uncovered { .. } = case {
+        return lists::check(judge, case);
+    }
     let (answer, bytes) = case.library_ample();
     if answer.refusal != 0 {
         return false;

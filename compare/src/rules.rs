@@ -16,9 +16,11 @@ pub const NO_CLASS: u32 = 6;
 pub const HOST_TOO_LARGE: u32 = 7;
 pub const FIRST_ABOVE_LAST: u32 = 8;
 pub const WRONG_FAMILY: u32 = 9;
+pub const TOO_MANY: u32 = 10;
 
 const LONGEST_TEXT: usize = 64;
 const LONGEST_LINE: usize = 129;
+const MOST_RECORDS: usize = 512;
 
 pub fn read_address(text: &[u8], family: u32, out: &mut [u8]) -> Result<usize, u32> {
     if ![0, 4, 6].contains(&family) {
@@ -114,12 +116,15 @@ pub fn write_block(address: &[u8], length: u32, out: &mut [u8]) -> Result<usize,
 
 pub fn range_blocks(first: &[u8], last: &[u8], out: &mut [u8]) -> Result<(usize, usize), u32> {
     let blocks = range(address_of(first)?, address_of(last)?)?;
-    let mut records = Vec::new();
-    for &(address, length) in &blocks {
-        records.extend(octets(address));
-        records.push(u8::try_from(length).expect("a prefix length is at most 128"));
-    }
-    Ok((blocks.len(), put(&records, out)?))
+    put_records(&blocks, out)
+}
+
+pub fn gather(records: &[u8], family: u32, out: &mut [u8]) -> Result<(usize, usize), u32> {
+    put_records(&list(records, family, true)?, out)
+}
+
+pub fn uncovered(records: &[u8], family: u32, out: &mut [u8]) -> Result<(usize, usize), u32> {
+    put_records(&list(records, family, false)?, out)
 }
 
 /// The range program: what it writes to standard output, given the whole of standard input.
@@ -183,6 +188,15 @@ fn put(bytes: &[u8], out: &mut [u8]) -> Result<usize, u32> {
     let free = out.get_mut(..bytes.len()).ok_or(NO_ROOM)?;
     free.copy_from_slice(bytes);
     Ok(bytes.len())
+}
+
+fn put_records(blocks: &[(IpAddr, u32)], out: &mut [u8]) -> Result<(usize, usize), u32> {
+    let mut records = Vec::new();
+    for &(address, length) in blocks {
+        records.extend(octets(address));
+        records.push(u8::try_from(length).expect("a prefix length is at most 128"));
+    }
+    Ok((blocks.len(), put(&records, out)?))
 }
 
 /// Strict text of either family. The parser of `std::net` agrees with the rules throughout: it
@@ -367,6 +381,66 @@ fn bisect(
     bisect(middle + 1, end, length + 1, first, last, blocks);
 }
 
+/// The fewest blocks of the addresses that a list covers, or of those that it does not.
+fn list(records: &[u8], family: u32, covered: bool) -> Result<Vec<(IpAddr, u32)>, u32> {
+    let width = match family {
+        4 => 32,
+        6 => 128,
+        _ => return Err(WRONG_FAMILY),
+    };
+    let records = records.chunks_exact(width as usize / 8 + 1);
+    if !records.remainder().is_empty() {
+        return Err(MALFORMED);
+    }
+    if records.len() > MOST_RECORDS {
+        return Err(TOO_MANY);
+    }
+    let pile: Vec<(u128, u32)> = records.map(block_of_record).collect::<Result<_, _>>()?;
+    let mut blocks = Vec::new();
+    halve((0, 0), width, &pile, covered, &mut blocks);
+    let blocks = blocks.into_iter();
+    Ok(blocks
+        .map(|(start, length)| (address_from(start, width), length))
+        .collect())
+}
+
+fn block_of_record(record: &[u8]) -> Result<(u128, u32), u32> {
+    let (&length, address) = record.split_last().ok_or(MALFORMED)?;
+    let address = address_of(address)?;
+    check_block(address, length.into())?;
+    Ok((number(address), length.into()))
+}
+
+/// Collects from one block, of the given start and length, the fewest blocks of what the pile covers
+/// of it, or of what it does not. The pile has only blocks that share an address with this one, so
+/// that each lies inside it or all around it.
+fn halve(
+    (start, length): (u128, u32),
+    width: u32,
+    pile: &[(u128, u32)],
+    covered: bool,
+    blocks: &mut Vec<(u128, u32)>,
+) {
+    let all = pile.iter().any(|&(_, around)| around <= length);
+    if all || pile.is_empty() {
+        if all == covered {
+            blocks.push((start, length));
+        }
+        return;
+    }
+    let middle = start + (1 << (width - length - 1));
+    let halves = [(start, length + 1), (middle, length + 1)];
+    let (lower, upper): (Vec<_>, Vec<_>) = pile.iter().partition(|&&(first, _)| first < middle);
+    let before = blocks.len();
+    halve(halves[0], width, &lower, covered, blocks);
+    halve(halves[1], width, &upper, covered, blocks);
+    // Both halves whole are this block.
+    if blocks[before..] == halves {
+        blocks.truncate(before);
+        blocks.push((start, length));
+    }
+}
+
 #[cfg(test)]
 mod tests {
     use super::*;
@@ -453,5 +527,78 @@ mod tests {
             next += 1 << (32 - record[4]);
         }
         assert_eq!(next, u64::from(last) + 1);
+    }
+
+    /// All rising lists of blocks of a few bits in which none shares an address with another: this
+    /// block, or those of its lower half and then those of its upper half.
+    fn rising_lists(start: u128, length: u32, width: u32) -> Vec<Vec<(u128, u32)>> {
+        if length == width {
+            return vec![vec![], vec![(start, length)]];
+        }
+        let middle = start + (1 << (width - length - 1));
+        let upper = rising_lists(middle, length + 1, width);
+        let mut lists = vec![vec![(start, length)]];
+        for lower in rising_lists(start, length + 1, width) {
+            lists.extend(upper.iter().map(|upper| [&lower[..], upper].concat()));
+        }
+        lists
+    }
+
+    /// The addresses that blocks of three bits cover, each as one bit.
+    fn cover(blocks: &[(u128, u32)]) -> u8 {
+        blocks.iter().fold(0, |cover, &(start, length)| {
+            (start..start + (1 << (3 - length))).fold(cover, |cover, address| cover | 1 << address)
+        })
+    }
+
+    /// Of three bits there are 15 blocks. Every set of them, in two orders, gathers to the one
+    /// shortest of all lists with its cover, and leaves the one shortest with the cover of the rest.
+    #[test]
+    fn every_list_of_three_bits() {
+        let mut shortest: Vec<Vec<Vec<(u128, u32)>>> = vec![vec![]; 256];
+        for list in rising_lists(0, 0, 3) {
+            let known = &mut shortest[usize::from(cover(&list))];
+            match known.first().map_or(0, Vec::len) {
+                length if known.is_empty() || list.len() < length => *known = vec![list],
+                length if list.len() == length => known.push(list),
+                _ => {}
+            }
+        }
+        assert!(shortest.iter().all(|lists| lists.len() == 1));
+
+        let blocks: Vec<(u128, u32)> = (0..=3)
+            .flat_map(|length| (0..1 << length).map(move |n| (n << (3 - length), length)))
+            .collect();
+        assert_eq!(blocks.len(), 15);
+        for set in 0..1 << 15 {
+            let mut pile: Vec<(u128, u32)> = (0..15)
+                .filter(|place| set >> place & 1 == 1)
+                .map(|place| blocks[place])
+                .collect();
+            let covered = cover(&pile);
+            for _ in 0..2 {
+                pile.reverse();
+                for (covers, wanted) in [(true, covered), (false, !covered)] {
+                    let mut found = Vec::new();
+                    halve((0, 0), 3, &pile, covers, &mut found);
+                    assert_eq!(found, shortest[usize::from(wanted)][0], "{pile:?}");
+                }
+            }
+        }
+    }
+
+    #[test]
+    fn first_bad_record_decides() {
+        for call in [gather, uncovered] {
+            let list = |records: &[[u8; 5]]| call(&records.concat(), 4, &mut []);
+            let (good, long, beyond) = ([0; 5], [0, 0, 0, 1, 33], [0, 0, 0, 1, 31]);
+            assert_eq!(list(&[good, long, beyond]), Err(LENGTH_TOO_LARGE));
+            assert_eq!(list(&[good, beyond, long]), Err(BITS_BEYOND_LENGTH));
+            assert_eq!(list(&[long; 512]), Err(LENGTH_TOO_LARGE));
+            assert_eq!(list(&[long; 513]), Err(TOO_MANY));
+            assert_eq!(call(&[255; 5 * 513 + 1], 4, &mut []), Err(MALFORMED));
+            assert_eq!(call(&[255; 5 * 513 + 1], 0, &mut []), Err(WRONG_FAMILY));
+            assert_eq!(call(&[1, 2, 3, 4, 32], 4, &mut []), Err(NO_ROOM));
+        }
     }
 }

@@ -1,6 +1,7 @@
-//! The specimens written in the rules, each with the outcome written beside it.
+//! The specimens written in the rules, each with the outcome written beside it, and lists that were
+//! worked out by hand.
 
-use crate::case::{Answer, Case, AMPLE_ROOM};
+use crate::case::{Answer, Case};
 
 /// What the buffer holds before a call.
 const KEPT: u8 = 0xa5;
@@ -21,7 +22,7 @@ pub struct Specimen {
 impl Specimen {
     /// Whether a program, which is one of the two that are compared, gives the written outcome.
     pub fn holds(&self, program: fn(&Case, &mut [u8]) -> Answer) -> bool {
-        let mut out = vec![KEPT; AMPLE_ROOM];
+        let mut out = vec![KEPT; self.case.ample_room()];
         let answer = program(&self.case, &mut out);
         let (written, rest) = out.split_at(answer.bytes);
         let as_written = match &self.outcome {
@@ -82,6 +83,7 @@ pub fn rows() -> Vec<Specimen> {
     }
     rows.extend(networks());
     rows.extend(blocks_and_ranges());
+    rows.extend(lists());
     rows
 }
 
@@ -139,6 +141,87 @@ fn blocks_and_ranges() -> Vec<Specimen> {
             Outcome::Answer([4, 0], whole_case.concat()),
         ),
     ]
+}
+
+/// Each list with what it gathers to and what it does not cover.
+fn lists() -> Vec<Specimen> {
+    // Of both families alike, since the first octet says all: an address that has no other, and the
+    // length.
+    let lists: [[&[(u8, u8)]; 3]; 9] = [
+        [&[], &[], &[(0, 0)]],
+        [&[(0, 0)], &[(0, 0)], &[]],
+        [&[(128, 1), (0, 1)], &[(0, 0)], &[]],
+        [&[(0, 1)], &[(0, 1)], &[(128, 1)]],
+        // one inside another, and one twice
+        [
+            &[(160, 3), (128, 2), (128, 2), (176, 4)],
+            &[(128, 2)],
+            &[(0, 1), (192, 2)],
+        ],
+        // two that touch and are no halves
+        [
+            &[(128, 2), (64, 2)],
+            &[(64, 2), (128, 2)],
+            &[(0, 2), (192, 2)],
+        ],
+        // halves of a half
+        [&[(96, 3), (0, 2), (64, 3)], &[(0, 1)], &[(128, 1)]],
+        // the first and the last
+        [
+            &[(254, 7), (0, 7)],
+            &[(0, 7), (254, 7)],
+            &[
+                (2, 7),
+                (4, 6),
+                (8, 5),
+                (16, 4),
+                (32, 3),
+                (64, 2),
+                (128, 2),
+                (192, 3),
+                (224, 4),
+                (240, 5),
+                (248, 6),
+                (252, 7),
+            ],
+        ],
+        // all but one
+        [
+            &[(128, 1), (32, 3), (0, 4), (64, 2), (24, 5)],
+            &[(0, 4), (24, 5), (32, 3), (64, 2), (128, 1)],
+            &[(16, 5)],
+        ],
+    ];
+    let mut rows = Vec::new();
+    for (family, octets) in [(4, 4), (6, 16)] {
+        let records = |blocks: &[(u8, u8)]| -> Vec<u8> {
+            let record = |&(first, length): &(u8, u8)| {
+                let mut record = vec![0; octets + 1];
+                (record[0], record[octets]) = (first, length);
+                record
+            };
+            blocks.iter().flat_map(record).collect()
+        };
+        for [list, gathered, rest] in lists {
+            let outcome = |blocks: &[_]| Outcome::Answer([blocks.len() as u64, 0], records(blocks));
+            let list = records(list);
+            rows.push(Specimen {
+                case: Case::Gather {
+                    records: list.clone(),
+                    family,
+                },
+                outcome: outcome(gathered),
+            });
+            rows.push(Specimen {
+                case: Case::Uncovered {
+                    records: list,
+                    family,
+                },
+                outcome: outcome(rest),
+            });
+        }
+    }
+    rows
 }
 
 fn strict(text: &str) -> Case {

@@ -64,7 +64,7 @@ const NEAR_MISSES: [&str; 36] = [
     "0x/8",
 ];
 
-type Sweep = fn(&mut Run);
+pub type Sweep = fn(&mut Run);
 
 pub const SWEEPS: [Sweep; 11] = [
     specimens,
