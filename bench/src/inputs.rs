@@ -8,6 +8,11 @@ use std::net::{Ipv4Addr, Ipv6Addr};
 /// and still stay in its second cache.
 const COUNT: usize = 16_384;
 
+/// How many records a list has, and how many lists a row has: too many records for a processor to
+/// learn their branches, and few enough to stay in its second cache.
+const RECORDS: usize = 512;
+const LISTS: usize = 32;
+
 /// Text as both sides want it: a length, and a zero byte behind it for the C library.
 pub struct Text(&'static str);
 
@@ -34,6 +39,13 @@ impl Text {
 pub struct Range<const N: usize> {
     pub first: [u8; N],
     pub last: [u8; N],
+    pub room: usize,
+}
+
+/// Records of one family, and the room that an answer is lent.
+pub struct List {
+    pub records: Vec<u8>,
+    pub family: u32,
     pub room: usize,
 }
 
@@ -253,4 +265,78 @@ pub fn most_blocks<const N: usize>(room: usize) -> Range<N> {
     first[N - 1] = 1;
     last[N - 1] = 254;
     Range { first, last, room }
+}
+
+// ---- lists
+
+/// The block of this length around the address that the lowest bits of a number are.
+fn around<const N: usize>(address: u128, length: u64) -> Block<N> {
+    let free = 8 * N as u32 - length as u32;
+    let first = address.checked_shr(free).unwrap_or(0);
+    let first = first.checked_shl(free).unwrap_or(0).to_be_bytes();
+    Block {
+        octets: first[16 - N..].try_into().unwrap(),
+        length: length as u32,
+    }
+}
+
+/// A block of up to 256 addresses anywhere.
+fn small<const N: usize>(random: &mut Random) -> Block<N> {
+    let bits = 8 * N as u64;
+    around(random.wide(), random.within(bits - 8, bits))
+}
+
+/// As many lists as a row has, of the blocks that `make` makes.
+fn lists<const N: usize>(room: usize, make: impl Fn(&mut Random) -> Vec<Block<N>>) -> Vec<List> {
+    let mut random = Random(1);
+    let record = |block: Block<N>| block.octets.into_iter().chain([block.length as u8]);
+    let list = |blocks: Vec<Block<N>>| List {
+        records: blocks.into_iter().flat_map(record).collect(),
+        family: if N == 4 { 4 } else { 6 },
+        room,
+    };
+    (0..LISTS).map(|_| list(make(&mut random))).collect()
+}
+
+/// Blocks anywhere, in no order, hardly two of which share an address.
+pub fn random_lists<const N: usize>(room: usize) -> Vec<List> {
+    lists(room, |random| {
+        (0..RECORDS).map(|_| small::<N>(random)).collect()
+    })
+}
+
+/// Larger blocks, each with seven inside it, in no order.
+pub fn nested_lists<const N: usize>(room: usize) -> Vec<List> {
+    let bits = 8 * N as u64;
+    lists(room, |random| {
+        let mut blocks = Vec::new();
+        while blocks.len() < RECORDS {
+            let (address, length) = (random.wide(), random.within(bits - 24, bits - 8));
+            blocks.push(around::<N>(address, length));
+            for _ in 0..7 {
+                let beyond = random.wide() & ((1 << (bits - length)) - 1);
+                let inside = random.within(length + 1, bits);
+                blocks.push(around(address ^ beyond, inside));
+            }
+        }
+        for place in 0..blocks.len() {
+            blocks.swap(place, random.within(0, place as u64) as usize);
+        }
+        blocks
+    })
+}
+
+/// Lists that are gathered already: a block in each of as many equal parts of all addresses, rising.
+pub fn gathered_lists<const N: usize>(room: usize) -> Vec<List> {
+    let within = |part: usize, mut block: Block<N>| {
+        // The number of the part in the first nine bits.
+        block.octets[0] = (part >> 1) as u8;
+        block.octets[1] = (part << 7) as u8 | block.octets[1] & 0x7f;
+        block
+    };
+    lists(room, |random| {
+        (0..RECORDS)
+            .map(|part| within(part, small(random)))
+            .collect()
+    })
 }

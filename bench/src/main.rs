@@ -8,9 +8,9 @@ mod table;
 
 use std::net::{Ipv4Addr, Ipv6Addr};
 
-use inputs::{between, covered, inputs, most_blocks, texts, Base, Block, Range, Text};
+use inputs::{between, covered, inputs, most_blocks, texts, Base, Block, List, Range, Text};
 use measure::{measure, verify, Answer};
-use nibharrow::exact;
+use nibharrow::{exact, room};
 use table::Row;
 
 const USAGE: &str = "usage: bench [--markdown] [--only WORD] [--rounds N] [--svg FILE]";
@@ -21,6 +21,8 @@ const READ_IPV6: Option<f64> = Some(0.8);
 const WRITE: Option<f64> = Some(0.6);
 const RANGE: Option<f64> = Some(1.3);
 const C_READERS: Option<f64> = Some(1.0);
+const LIST: Option<f64> = Some(1.5);
+const LIST_IN_ORDER: Option<f64> = Some(1.0);
 
 struct Bench {
     markdown: bool,
@@ -247,6 +249,43 @@ impl Bench {
         }
     }
 
+    /// What lists gather to, or what they do not cover; `room` suffices for any list.
+    fn list_rows<const N: usize, const GATHER: bool>(&mut self, family: &str, room: usize) {
+        let (call, library) = match GATHER {
+            true => ("gather", exact::gather as fn(&[u8], u32, &mut [u8]) -> _),
+            false => ("uncovered", exact::uncovered as _),
+        };
+        let tight = |list: List| {
+            let mut out = vec![0; room];
+            let written = peers::on_records::<false, GATHER>(&list.records, list.family, &mut out);
+            List {
+                room: written.bytes,
+                ..list
+            }
+        };
+        let nested_tight = inputs::nested_lists::<N>(room).into_iter().map(tight);
+        for (kind, target, lists) in [
+            ("random", LIST, inputs::random_lists::<N>(room)),
+            ("nested", LIST, inputs::nested_lists::<N>(room)),
+            (
+                "nested, no room to spare",
+                LIST,
+                nested_tight.collect::<Vec<_>>(),
+            ),
+            ("in order", LIST_IN_ORDER, inputs::gathered_lists::<N>(room)),
+        ] {
+            let work = format!("{call} {family}, {kind}");
+            let blocks =
+                |l: &List, out: &mut [u8]| library(&l.records, l.family, &mut out[..l.room]);
+            self.row((&work, "like Rust", target), &lists, blocks, |l, out| {
+                peers::on_records::<false, GATHER>(&l.records, l.family, &mut out[..l.room])
+            });
+            self.row((&work, "Rust by masks", None), &lists, blocks, |l, out| {
+                peers::on_records::<true, GATHER>(&l.records, l.family, &mut out[..l.room])
+            });
+        }
+    }
+
     fn classes(&mut self) {
         let addresses = inputs(|r| inputs::ipv4(r, 0, 223).octets());
         self.row(
@@ -278,6 +317,10 @@ fn main() {
     bench.block_rows::<16, Ipv6Addr>("IPv6", &inputs(inputs::block6));
     bench.range_rows("IPv4", |r| inputs::ipv4(r, 0, 255).octets(), inputs::block4);
     bench.range_rows("IPv6", |r| inputs::ipv6(r).octets(), inputs::block6);
+    bench.list_rows::<4, true>("IPv4", room::GATHER_4);
+    bench.list_rows::<16, true>("IPv6", room::GATHER_6);
+    bench.list_rows::<4, false>("IPv4", room::UNCOVERED_4);
+    bench.list_rows::<16, false>("IPv6", room::UNCOVERED_6);
     bench.classes();
     print!(
         "{}",

@@ -5,6 +5,7 @@ use std::hint::black_box;
 use std::time::Duration;
 
 use nibharrow::raw::{BlockRead, BlocksWritten, NetworkHost, Written};
+use nibharrow::room;
 
 /// How long a side is timed for in each round, and in each of its turns: short ones, so that what
 /// else goes on in the machine meets both sides alike.
@@ -12,7 +13,7 @@ const ROUND: Duration = Duration::from_millis(5);
 const TURN: Duration = Duration::from_millis(1);
 
 /// The room that a call is lent: enough for every answer.
-const ROOM: usize = 4318;
+const ROOM: usize = room::UNCOVERED_6;
 
 /// An answer that can be compared with the other side's.
 pub trait Answer: Debug + PartialEq {
@@ -147,12 +148,15 @@ pub fn verify<I, A: Answer>(
     library: &impl Fn(&I, &mut [u8]) -> A,
     peer: &impl Fn(&I, &mut [u8]) -> A,
 ) {
+    let (mut ours, mut theirs) = (vec![0; ROOM], vec![0; ROOM]);
     for (index, input) in inputs.iter().enumerate() {
-        let (mut ours, mut theirs) = ([0; ROOM], [0; ROOM]);
         let (answer, expected) = (library(input, &mut ours), peer(input, &mut theirs));
         assert_eq!(answer, expected, "answers to input {index}");
         let bytes = answer.bytes();
         assert_eq!(ours[..bytes], theirs[..bytes], "bytes of input {index}");
+        // So that no byte of this answer stands in for one that the next should have written.
+        ours[..bytes].fill(0);
+        theirs[..bytes].fill(0);
     }
 }
 
@@ -164,7 +168,7 @@ pub fn measure<I, A: Answer>(
     library: &impl Fn(&I, &mut [u8]) -> A,
     peer: &impl Fn(&I, &mut [u8]) -> A,
 ) -> Times {
-    let mut out = [0; ROOM];
+    let mut out = vec![0; ROOM];
     let (library_count, library_turn) = passes_of_turn(library, inputs, &mut out);
     let (peer_count, peer_turn) = passes_of_turn(peer, inputs, &mut out);
     let longest = library_turn.max(peer_turn);

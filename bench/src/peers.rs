@@ -285,12 +285,16 @@ pub fn join(network: u32, host: u32, out: &mut [u8]) -> Written {
     written(try_join(network, host, out))
 }
 
-/// The walk over a range, once for each width of number. The next block is found from the trailing
-/// zeros of its start, as the library does it, or by masks: quicker, and harder to follow.
+/// The most records that a list may have.
+const MOST_RECORDS: usize = 512;
+
+/// The walk over a range, and the calls on lists, which walk over several, once for each width of
+/// number. The next block is found from the trailing zeros of its start, as the library does it, or by
+/// masks: quicker, and harder to follow.
 macro_rules! range_walk {
     ($family:ident, $number:ident) => {
         mod $family {
-            use super::Outcome;
+            use super::{Outcome, MOST_RECORDS};
 
             const BITS: u32 = $number::BITS;
             const RECORD: usize = BITS as usize / 8 + 1;
@@ -326,17 +330,8 @@ macro_rules! range_walk {
                 }
             }
 
-            pub fn put_blocks<const MASKS: bool>(
-                first: $number,
-                last: $number,
-                out: &mut [u8],
-            ) -> Outcome<(usize, usize)> {
-                if last < first {
-                    return Err(8);
-                }
-                if out.len() < ROOM && out.len() < count::<MASKS>(first, last) * RECORD {
-                    return Err(3);
-                }
+            /// Puts the records of a range at the start of `out`, and answers how many they are.
+            fn put<const MASKS: bool>(first: $number, last: $number, out: &mut [u8]) -> usize {
                 let (mut start, mut n) = (first, 0);
                 for record in out.chunks_exact_mut(RECORD) {
                     let (free, end) = step::<MASKS>(start, last);
@@ -348,6 +343,108 @@ macro_rules! range_walk {
                     }
                     start = end + 1;
                 }
+                n
+            }
+
+            pub fn put_blocks<const MASKS: bool>(
+                first: $number,
+                last: $number,
+                out: &mut [u8],
+            ) -> Outcome<(usize, usize)> {
+                if last < first {
+                    return Err(8);
+                }
+                if out.len() < ROOM && out.len() < count::<MASKS>(first, last) * RECORD {
+                    return Err(3);
+                }
+                let n = put::<MASKS>(first, last, out);
+                Ok((n, n * RECORD))
+            }
+
+            type Range = ($number, $number);
+
+            /// The blocks of a list as ranges, rising by their first addresses.
+            fn sorted<'a>(
+                records: &[u8],
+                list: &'a mut [Range; MOST_RECORDS],
+            ) -> Outcome<&'a [Range]> {
+                if records.len() % RECORD != 0 {
+                    return Err(2);
+                }
+                let list = list.get_mut(..records.len() / RECORD).ok_or(10u32)?;
+                for (range, record) in list.iter_mut().zip(records.chunks_exact(RECORD)) {
+                    let first = $number::from_be_bytes(record[..RECORD - 1].try_into().unwrap());
+                    let length = u32::from(record[RECORD - 1]);
+                    if BITS < length {
+                        return Err(4);
+                    }
+                    let beyond = $number::MAX.checked_shr(length).unwrap_or(0);
+                    if first & beyond != 0 {
+                        return Err(5);
+                    }
+                    *range = (first, first | beyond);
+                }
+                list.sort_unstable_by_key(|range| range.0);
+                Ok(list)
+            }
+
+            /// Takes each range that sorted ones cover together, or each that is between those.
+            fn ranges<const GATHER: bool>(list: &[Range], mut take: impl FnMut($number, $number)) {
+                if GATHER {
+                    return joined(list, take);
+                }
+                let mut next = Some(0);
+                joined(list, |first, last| {
+                    if let Some(next) = next.filter(|next| *next < first) {
+                        take(next, first - 1);
+                    }
+                    next = last.checked_add(1);
+                });
+                if let Some(next) = next {
+                    take(next, $number::MAX);
+                }
+            }
+
+            fn joined(list: &[Range], mut take: impl FnMut($number, $number)) {
+                let Some((&(mut first, mut last), rest)) = list.split_first() else {
+                    return;
+                };
+                for &(start, end) in rest {
+                    if end <= last {
+                        continue;
+                    }
+                    if last + 1 < start {
+                        take(first, last);
+                        first = start;
+                    }
+                    last = end;
+                }
+                take(first, last);
+            }
+
+            /// Puts the blocks of what a list covers, or of what it does not. They are counted first
+            /// where there might be no room for them.
+            pub fn put_list<const MASKS: bool, const GATHER: bool>(
+                records: &[u8],
+                out: &mut [u8],
+            ) -> Outcome<(usize, usize)> {
+                let mut list = [(0, 0); MOST_RECORDS];
+                let list = sorted(records, &mut list)?;
+                let most = match GATHER {
+                    true => list.len(),
+                    false => 1 + list.len() * (BITS as usize - 1),
+                };
+                let mut n = 0;
+                if out.len() < most * RECORD {
+                    ranges::<GATHER>(list, |first, last| n += count::<MASKS>(first, last));
+                    if out.len() < n * RECORD {
+                        return Err(3);
+                    }
+                    n = 0;
+                }
+                ranges::<GATHER>(list, |first, last| {
+                    n += put::<MASKS>(first, last, &mut out[n * RECORD..]);
+                });
                 Ok((n, n * RECORD))
             }
         }
@@ -370,9 +467,8 @@ fn try_range_blocks<const MASKS: bool>(
     }
 }
 
-#[inline(never)]
-pub fn range_blocks<const MASKS: bool>(first: &[u8], last: &[u8], out: &mut [u8]) -> BlocksWritten {
-    match try_range_blocks::<MASKS>(first, last, out) {
+fn blocks_written(outcome: Outcome<(usize, usize)>) -> BlocksWritten {
+    match outcome {
         Ok((blocks, bytes)) => BlocksWritten {
             refusal: 0,
             blocks,
@@ -384,4 +480,22 @@ pub fn range_blocks<const MASKS: bool>(first: &[u8], last: &[u8], out: &mut [u8]
             bytes: 0,
         },
     }
+}
+
+#[inline(never)]
+pub fn range_blocks<const MASKS: bool>(first: &[u8], last: &[u8], out: &mut [u8]) -> BlocksWritten {
+    blocks_written(try_range_blocks::<MASKS>(first, last, out))
+}
+
+#[inline(never)]
+pub fn on_records<const MASKS: bool, const GATHER: bool>(
+    records: &[u8],
+    family: u32,
+    out: &mut [u8],
+) -> BlocksWritten {
+    blocks_written(match family {
+        4 => narrow::put_list::<MASKS, GATHER>(records, out),
+        6 => wide::put_list::<MASKS, GATHER>(records, out),
+        _ => Err(9),
+    })
 }

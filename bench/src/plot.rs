@@ -5,7 +5,7 @@ use crate::table::Row;
 /// Pixels. The names of the works end before `LEFT`; the axis keeps `EDGE` from both its sides, so
 /// that a mark at its end is whole.
 const WIDTH: f64 = 900.0;
-const LEFT: f64 = 262.0;
+const LEFT: f64 = 288.0;
 const RIGHT: f64 = 884.0;
 const EDGE: f64 = 12.0;
 const RADIUS: f64 = 6.0;
