@@ -200,9 +200,11 @@ fn calls_of_c_alone_are_refused() {
 }
 
 #[test]
-fn the_example_prints_what_is_stored() {
-    let printed = run_c("examples/addresses.c", "-std=c99");
-    assert_eq!(printed, read("examples/addresses.out"));
+fn the_examples_print_what_is_stored() {
+    for example in ["addresses", "lists"] {
+        let printed = run_c(&format!("examples/{example}.c"), "-std=c99");
+        assert_eq!(printed, read(&format!("examples/{example}.out")));
+    }
 }
 
 /// Asks nothing where there is no C++ compiler: the library does not need one.
