@@ -1,7 +1,7 @@
 use crate::lend::with_octets;
 use crate::raw::BlocksWritten;
 use crate::refusal::checked;
-use crate::{exact, room, Block, Family, Records, Refusal};
+use crate::{exact, room, Block, Family, Records, Refusal, MOST_RECORDS};
 
 /// Gathers blocks of one family into the fewest that cover the same addresses and no others.
 ///
@@ -90,10 +90,9 @@ pub fn gather_records<'a>(
 /// ```
 pub fn uncovered(family: Family, blocks: &[Block]) -> Result<Vec<Block>, Refusal> {
     let records = records_of(family, blocks)?;
-    let mut out = match family {
-        Family::V4 => vec![0; room::UNCOVERED_4],
-        _ => vec![0; room::UNCOVERED_6],
-    };
+    // More blocks are refused, and need no room.
+    let count = blocks.len().min(MOST_RECORDS);
+    let mut out = vec![0; room::uncovered(address_bytes(family), count)];
     let uncovered = uncovered_records(family, &records, &mut out)?;
     Ok(uncovered.blocks().collect())
 }
@@ -131,12 +130,18 @@ fn list<'a>(
     out: &'a mut [u8],
 ) -> Result<Records<'a>, Refusal> {
     let written = checked(call(records, family as u32, out))?;
-    // A family that is neither is refused.
-    let address = match family {
+    Ok(Records::answered(
+        &out[..written.bytes],
+        address_bytes(family),
+    ))
+}
+
+/// How many bytes an address of the family has. For `Either` any number does: such a list is refused.
+fn address_bytes(family: Family) -> usize {
+    match family {
         Family::V4 => 4,
-        _ => 16,
-    };
-    Ok(Records::answered(&out[..written.bytes], address))
+        Family::V6 | Family::Either => 16,
+    }
 }
 
 /// The blocks as records, if all of them are of the family.

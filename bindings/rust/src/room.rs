@@ -1,5 +1,7 @@
 //! Room that always suffices, in bytes: the constants of the header without their prefix.
 
+use crate::MOST_RECORDS;
+
 /// The bytes of an address.
 pub const ADDRESS: usize = 16;
 /// The text of an address.
@@ -21,8 +23,14 @@ pub const GATHER_4: usize = 2560;
 /// too, since it is never longer gathered.
 pub const GATHER_6: usize = 8704;
 /// What a list of IPv4 does not cover: at most 15,873 records of 5 bytes.
-pub const UNCOVERED_4: usize = 79_365;
+pub const UNCOVERED_4: usize = uncovered(4, MOST_RECORDS);
 /// What a list of IPv6 does not cover: at most 65,025 records of 17 bytes.
-pub const UNCOVERED_6: usize = 1_105_425;
+pub const UNCOVERED_6: usize = uncovered(16, MOST_RECORDS);
 /// The text of a refusal.
 pub const REFUSAL_TEXT: usize = 54;
+
+/// What so many blocks do not cover, of addresses of so many bytes: all, which is one block, and each
+/// of the list takes one apart, into as many as an address has bits at most.
+pub(crate) const fn uncovered(address: usize, blocks: usize) -> usize {
+    (1 + blocks * (8 * address - 1)) * (address + 1)
+}

@@ -118,5 +118,11 @@ fn longest_uncovered_lists() {
         assert_eq!(uncovered.blocks().len(), bits);
         let uncovered = uncovered_records(family, &list, &mut out).unwrap();
         assert_eq!(uncovered.blocks().len(), MOST_RECORDS * (bits - 9));
+        // As blocks, in room for as many as so many leave.
+        let blocks = gather_records(family, &list, &mut out).unwrap().blocks();
+        let blocks: Vec<Block> = blocks.collect();
+        for count in [1, 2, 3, MOST_RECORDS - 1, MOST_RECORDS] {
+            assert!(nibharrow::uncovered(family, &blocks[..count]).is_ok());
+        }
     }
 }
