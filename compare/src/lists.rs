@@ -81,7 +81,7 @@ fn same(judge: &mut Judge, case: &Case, other: &Case, (answer, bytes): (Answer, 
 fn stirred(judge: &mut Judge, records: &[u8], record: usize) -> Vec<u8> {
     let random = &mut judge.random;
     let mut list: Vec<&[u8]> = records.chunks(record).collect();
-    let more = list.len().min(MOST_RECORDS - list.len());
+    let more = list.len().min(MOST_RECORDS.saturating_sub(list.len()));
     for _ in 0..random.below(more + 1) {
         list.push(list[random.below(list.len())]);
     }
