@@ -43,6 +43,7 @@ fn compare_rooms(run: &mut Run, records: &[u8], family: u32) {
             need.saturating_sub(5),
             need.saturating_sub(1),
             need + 1,
+            need + 5,
             need + 17,
             records.len(),
         ] {
