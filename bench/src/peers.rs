@@ -422,20 +422,22 @@ macro_rules! range_walk {
                 take(first, last);
             }
 
-            /// Puts the blocks of what a list covers, or of what it does not. They are counted first
-            /// where there might be no room for them.
+            /// Puts the blocks of what a list covers, or of what it does not. They are counted first,
+            /// but where it is known without that there is room: a list is never longer gathered. The
+            /// bound of what is not covered is left to the quicker walk.
             pub fn put_list<const MASKS: bool, const GATHER: bool>(
                 records: &[u8],
                 out: &mut [u8],
             ) -> Outcome<(usize, usize)> {
                 let mut list = [(0, 0); MOST_RECORDS];
                 let list = sorted(records, &mut list)?;
-                let most = match GATHER {
-                    true => list.len(),
-                    false => 1 + list.len() * (BITS as usize - 1),
+                let most = match (GATHER, MASKS) {
+                    (true, _) => Some(list.len()),
+                    (false, true) => Some(1 + list.len() * (BITS as usize - 1)),
+                    (false, false) => None,
                 };
                 let mut n = 0;
-                if out.len() < most * RECORD {
+                if most.is_none_or(|most| out.len() < most * RECORD) {
                     ranges::<GATHER>(list, |first, last| n += count::<MASKS>(first, last));
                     if out.len() < n * RECORD {
                         return Err(3);
