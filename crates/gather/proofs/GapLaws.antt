@@ -4,8 +4,9 @@ use mathlib.Core.Logic.{inl, inr}
 use mathlib.Core.Bool.{Bool, true, false, false≢true}
 use mathlib.Core.List.{List, [], _∷_, _++_, append-nil}
 use Prim.Native.Nat.{ℕ, suc, _+_, _-_, _*_, _/_, _^_, _≤_, _<_, max}
-use native.Mathlib.Nat.{mul-comm}
+use native.Mathlib.Nat.{mul-comm, mul-le-mul-right}
 use native.Mathlib.Omega.{arith}
+use lib.Dec.{leb}
 use lib.ListN.{length, length-append}
 use lib.Pow.{pow-pos}
 use Rattle.wide.specs.Value.{value}
@@ -28,7 +29,7 @@ use Rattle.record_lists.specs.Inner.{IsSize, sizeWidth}
 use Rattle.record_lists.proofs.ListLaws.{size-back}
 use Rattle.record_lists.proofs.GoodLaws.{reads-length}
 use Rattle.gather.specs.declared.Span.{Span}
-use Rattle.gather.specs.Inner.{noBlock, Listed, Spans, picks, ordered, InOrder, GapFits, PutsIf, PutsBefore, WritesBlocks}
+use Rattle.gather.specs.Inner.{noBlock, Listed, Spans, picks, ordered, InOrder, GapFits, PutsIf, PutsBefore, WritesBlocks, mostUncovered}
 use Rattle.gather.proofs.PutLaws.{records-append, records-none}
 use Rattle.gather.proofs.WriteLaws.{wrote-put}
 use Rattle.gather.proofs.PassLaws.{next-block, picks-length, picks-at, picks-next, picks-done}
@@ -94,6 +95,17 @@ pub record Sweeping (size n : ℕ) (write : Bool) (bytes xs old : List ℕ) (j f
       → PutsIf write out new at next (recordsOf (sizeWidth size) (gapsFrom (sizeWidth size) from (picks (ordered (sizeWidth size) bytes xs) j (n - j))))
       → PutsIf write old new 0 next (recordsOf (sizeWidth size) (uncoveredBlocks (sizeWidth size) (readRecords (sizeWidth size) n bytes)))
 
+-- how many blocks n records leave uncovered at most
+uncovered-few : {size n : ℕ} {bytes : List ℕ} → Listed size n bytes
+    → length (uncoveredBlocks (sizeWidth size) (readRecords (sizeWidth size) n bytes)) ≤ 1 + n * (sizeWidth size - 1)
+uncovered-few {size} {n} {bytes} L =
+    let W = sizeWidth size in
+    let ps = readRecords W n bytes in
+    subst (λ (m : ℕ). length (uncoveredBlocks W ps) ≤ 1 + m * (W - 1)) (reads-length W n bytes) (uncovered-at-most W ps (L .valid) width-pos)
+  where
+    width-pos : 1 ≤ sizeWidth size
+    width-pos = elim (L .sized) [ inl e ↦ omega arith | inr e ↦ omega arith ]
+
 bytes-most : (size n k : ℕ) → IsSize size → n ≤ 512 → k ≤ 1 + n * (sizeWidth size - 1) → size * k ≤ 1105425
 bytes-most size n k s h l = elim s [
   | inl e ↦ rw e (omega (arith, h, (rw e at l)))
@@ -119,17 +131,8 @@ module _ {size n : ℕ} {bytes xs : List ℕ} (L : Listed size n bytes) (O : InO
 
   few : length all ≤ 1105425
   few =
-      let most = uncovered-at-most W ps (L .valid) width-pos in
       let k = length (uncoveredBlocks W ps) in
-      omega (
-        arith,
-        records-length W (uncoveredBlocks W ps),
-        ap (λ (m : ℕ). m * k) (size-back size (L .sized)),
-        bytes-most size n k (L .sized) (L .few) (subst (λ (m : ℕ). k ≤ 1 + m * (W - 1)) (reads-length W n bytes) most),
-      )
-    where
-      width-pos : 1 ≤ W
-      width-pos = elim (L .sized) [ inl e ↦ omega arith | inr e ↦ omega arith ]
+      omega (arith, records-length W (uncoveredBlocks W ps), ap (λ (m : ℕ). m * k) (size-back size (L .sized)), bytes-most size n k (L .sized) (L .few) (uncovered-few L))
 
   left-valid : (k : ℕ) → AllBlocks W (left k)
   left-valid k = valid-all W noBlock (left k) (λ i h.
@@ -262,3 +265,25 @@ module _ {size : ℕ} (s : IsSize size) (bs : List Block) (old mid : List ℕ) (
         let q = puts-if (omega (arith, gaps-fit)) p in
         let same : k ≡ n = omega (arith, p .index, counted .index) in
         subst (λ l. WritesBlocks (sizeWidth size) bs l (Wrote (n / size) n) now) (counted .buffer) (wrote-put s bs mid n now (subst (λ (m : ℕ). Puts mid now 0 m (recordsOf (sizeWidth size) bs)) same q) gaps-fit)
+
+-- ---- room for any list
+
+pub ample-4 : {size : ℕ} → size ≡ 5 → (n room : ℕ) → leb ((1 + n * 31) * 5) room ≡ leb (mostUncovered size n) room
+ample-4 e n room = rw e
+
+pub ample-6 : {size : ℕ} → size ≡ 17 → (n room : ℕ) → leb ((1 + n * 127) * 17) room ≡ leb (mostUncovered size n) room
+ample-6 e n room = rw e
+
+pub ample-fits : {size n : ℕ} {bytes : List ℕ} → Listed size n bytes → (room : ℕ) → mostUncovered size n ≤ room
+    → length (recordsOf (sizeWidth size) (uncoveredBlocks (sizeWidth size) (readRecords (sizeWidth size) n bytes))) ≤ room
+ample-fits {size} {n} {bytes} L room h =
+    let bs = uncoveredBlocks (sizeWidth size) (readRecords (sizeWidth size) n bytes) in
+    let few = mul-le-mul-right size (uncovered-few L) in
+    omega (arith, h, few, counted-bytes (L .sized) bs (length bs) refl)
+
+pub ample-written : {size n : ℕ} {bytes : List ℕ} → Listed size n bytes → (old now : List ℕ) (k : ℕ) → mostUncovered size n ≤ length old
+    → PutsIf true old now 0 k (recordsOf (sizeWidth size) (uncoveredBlocks (sizeWidth size) (readRecords (sizeWidth size) n bytes)))
+    → WritesBlocks (sizeWidth size) (uncoveredBlocks (sizeWidth size) (readRecords (sizeWidth size) n bytes)) old (Wrote (k / size) k) now
+ample-written {size} {n} {bytes} L old now k h p =
+    let room = ample-fits L (length old) h in
+    wrote-put (L .sized) (uncoveredBlocks (sizeWidth size) (readRecords (sizeWidth size) n bytes)) old k now (puts-if (omega (arith, room)) p) room

@@ -152,3 +152,7 @@ abbrev pub PutsBefore : ℕ → Bool → ℕ → ℕ → List ℕ → ℕ → Li
 PutsBefore size write from first old at new next =
     ((first ≤ from) × (next ≡ at) × (new ≡ old))
     ⊎ ((from < first) × PutsIf write old new at next (recordsOf (sizeWidth size) (rangeBlocks (sizeWidth size) from (first - 1))))
+
+-- the bytes of the most blocks that n records can leave uncovered, by the theorem `uncovered-at-most` of lists
+abbrev pub mostUncovered : ℕ → ℕ → ℕ
+mostUncovered size n = (1 + n * (sizeWidth size - 1)) * size

@@ -3,6 +3,7 @@
 ghost use mathlib.Core.Path.{_≡_};
 ghost use mathlib.Core.Bool.{true};
 ghost use Prim.Native.Nat.{suc, _-_, _^_, _≤_, _<_, max};
+ghost use lib.Dec.{leb};
 ghost use lib.ListN.{length};
 ghost use Rattle.wide.specs.Value.{value};
 ghost use Rattle.cover.specs.Blocks.{IsBlock, after, rangeBlocks};
@@ -10,10 +11,10 @@ ghost use Rattle.lists.specs.Lists.{gatheredBlocks, uncoveredBlocks};
 ghost use Rattle.address.specs.Addresses.{width};
 ghost use Rattle.output.specs.Placing.{Puts, PutsAll};
 ghost use Rattle.records.specs.Records.{recordOf, blockRecord, recordsOf, readRecords, blocksWritingAnswer};
-ghost use Rattle.record_lists.specs.RecordLists.{isRising};
+ghost use Rattle.record_lists.specs.RecordLists.{isRising, mostRecords};
 ghost use Rattle.record_lists.specs.Inner.{IsSize, sizeWidth};
 ghost use Rattle.gather.specs.Gather.{gatherAnswer, gatherLeaves, uncoveredAnswer, uncoveredLeaves};
-ghost use Rattle.gather.specs.Inner.{numbers, recordAt, InList, Spans, HasPlace, placeOf, Bounds, Built, Room, Turned, Listed, InOrder, Loaded, OrderedBy, WritesBlocks, GapFits, PutsIf, PutsBefore};
+ghost use Rattle.gather.specs.Inner.{numbers, recordAt, InList, Spans, HasPlace, placeOf, Bounds, Built, Room, Turned, Listed, InOrder, Loaded, OrderedBy, WritesBlocks, GapFits, PutsIf, PutsBefore, mostUncovered};
 use address::Address;
 use address::Block;
 use address::Reading;
@@ -343,33 +344,53 @@ fn behind(from: Wide, last: Wide) -> Wide
 }
 
 // One pass over the blocks in order: the gaps before each, and the one behind the last. Their records are put at the start of `out` where
-// `write` says so. Answers how many bytes they are.
+// `write` says so. Answers how many bytes they are. The address that it has come to is kept in two halves: in one value the compiler would
+// store it and load it again for each block.
 fn sweep(size: usize, n: usize, write: bool, records: &[u8], order: &[u16], out: &mut [u8]) -> usize
     requires { ⌜ Listed size n (now records) × InOrder (sizeWidth size) n (now records) (now order) × (write ≡ true → length (recordsOf (sizeWidth size) (uncoveredBlocks (sizeWidth size) (readRecords (sizeWidth size) n (now records)))) ≤ length (now out)) ⌝ }
     ensures { λ r. ⌜ PutsIf write (now (out .entry)) (now (out .exit)) 0 r (recordsOf (sizeWidth size) (uncoveredBlocks (sizeWidth size) (readRecords (sizeWidth size) n (now (records .entry))))) ⌝ }
 {
     let top = Wide::ones(((size - 1) * 8) as u32);
-    let mut from = Wide::from_halves(0, 0);
+    let mut hi: u64 = 0;
+    let mut lo: u64 = 0;
     let mut at: usize = 0;
     let mut j: usize = 0;
     while j < n {
+        let from = Wide { hi, lo };
         let block = span_at(size, records, place(order, j));
         at = put_before(size, write, from, block, out, at);
         let last = block.last;
         if !last.less(top) {
             return at;
         }
-        from = behind(from, last);
+        let next = behind(from, last);
+        hi = next.hi;
+        lo = next.lo;
         j += 1;
     }
-    put_gap(size, write, from, top, out, at)
+    put_gap(size, write, Wide { hi, lo }, top, out, at)
 }
 
-// Counts the bytes of the gaps first, so that a buffer without room for all of them is left as it is.
+// Whether there is room for the most blocks that n records can leave uncovered.
+fn is_ample(size: usize, n: usize, room: usize) -> bool
+    requires { ⌜ IsSize size × (n ≤ mostRecords) ⌝ }
+    ensures { λ r. ⌜ r ≡ leb (mostUncovered size n) room ⌝ }
+{
+    if size == 5 {
+        return (1 + n * 31) * 5 <= room;
+    }
+    (1 + n * 127) * 17 <= room
+}
+
+// Counts the bytes of the gaps first where they might have no room, so that a buffer without room for all of them is left as it is.
 fn write_gaps(size: usize, n: usize, records: &[u8], order: &[u16], out: &mut [u8]) -> BlocksWriting
     requires { ⌜ Listed size n (now records) × InOrder (sizeWidth size) n (now records) (now order) ⌝ }
     ensures { λ r. ⌜ WritesBlocks (sizeWidth size) (uncoveredBlocks (sizeWidth size) (readRecords (sizeWidth size) n (now (records .entry)))) (now (out .entry)) r (now (out .exit)) ⌝ }
 {
+    if is_ample(size, n, out.len()) {
+        let bytes = sweep(size, n, true, records, order, out);
+        return BlocksWriting::Wrote(bytes / size, bytes);
+    }
     let bytes = sweep(size, n, false, records, order, out);
     if out.len() < bytes {
         return BlocksWriting::Refused(Refusal::NoRoom);

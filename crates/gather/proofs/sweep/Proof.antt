@@ -1,6 +1,6 @@
 -- `gather::sweep` meets its contract. Assumes nothing.
-use mathlib.Core.Path.{_≡_, sym, subst, _∙_}
-use Prim.Native.Nat.{_-_, _^_, _<_}
+use mathlib.Core.Path.{_≡_, refl, sym, subst, _∙_}
+use Prim.Native.Nat.{_+_, _-_, _*_, _^_, _<_}
 use native.Mathlib.Omega.{arith}
 use borrow.Author.Needs.{needs}
 use borrow.Author.Tests.{ltb-true, ltb-false, not-true, not-false}
@@ -17,10 +17,10 @@ use Rattle.gather.proofs.sweep.Statement.{statement}
 use Rattle.gather.proofs.sweep.Tie as tie
 
 abbrev Inv-loop : tie.InvT-loop
-Inv-loop size n write records order out₀ top from₀ at₀ j₀ out from at j = Sweeping size n write records order out₀ j (value from) at out
+Inv-loop size n write records order out₀ top hi₀ lo₀ at₀ j₀ out hi lo at j = Sweeping size n write records order out₀ j (hi * 2 ^ 64 + lo) at out
 
 abbrev μ-loop : tie.MeasureT-loop
-μ-loop size n write records order out₀ top from₀ at₀ j₀ out from at j = n - j
+μ-loop size n write records order out₀ top hi₀ lo₀ at₀ j₀ out hi lo at j = n - j
 
 sub-ones : tie.Need-sub-ones Inv-loop μ-loop
 sub-ones c = let s = c .before .before .before in omega (arith, size-some (s .pre .0 .sized) .0)
@@ -34,17 +34,14 @@ cast-ones c = let s = c .before .before .before in omega (arith, size-some (s .p
 ones-requires : tie.Need-ones-requires Inv-loop μ-loop
 ones-requires c κs = search needs
 
-from-halves-requires : tie.Need-from-halves-requires Inv-loop μ-loop
-from-halves-requires c κs = search needs
+abbrev begun : tie.After-ones Inv-loop μ-loop → tie.Start Inv-loop μ-loop
+begun c = c .before .before .before .before
 
-abbrev begun : tie.After-from-halves Inv-loop μ-loop → tie.Start Inv-loop μ-loop
-begun c = c .before .before .before .before .before
-
-top : (c : tie.After-from-halves Inv-loop μ-loop) → value (c .before .ones .result) ≡ 2 ^ sizeWidth (begun c .args .size) - 1
-top c = top-is (begun c .pre .0 .sized) _ (c .before .ones .ensures)
+top : (c : tie.After-ones Inv-loop μ-loop) → value (c .ones .result) ≡ 2 ^ sizeWidth (begun c .args .size) - 1
+top c = top-is (begun c .pre .0 .sized) _ (c .ones .ensures)
 
 loop-holds : tie.Need-loop-holds Inv-loop μ-loop
-loop-holds c = let s = begun c in sweep-first (s .pre .0) (s .pre .1) (s .args .write) (s .args .out .now) (s .pre .2) _ (c .from-halves .ensures)
+loop-holds c = let s = begun c in sweep-first (s .pre .0) (s .pre .1) (s .args .write) (s .args .out .now) (s .pre .2) _ refl
 
 -- the next block
 abbrev start : tie.In-loop Inv-loop μ-loop → tie.Start Inv-loop μ-loop
@@ -92,7 +89,7 @@ returns c =
     let s = start l in
     let S = l .before .loop .inv in
     let put = before-put (s .pre .0) (s .pre .1) (s .args .write) (s .args .out .now) (s .pre .2) S (l .loop-test .taken) _ (spans b) (p .put-before .ensures) in
-    let past = ltb-false (value (b .span-at .result .last)) (value (l .before .before .before .ones .result)) (sym (d .less .ensures) ∙ not-true _ (c .if1 .taken)) in
+    let past = ltb-false (value (b .span-at .result .last)) (value (l .before .before .ones .result)) (sym (d .less .ensures) ∙ not-true _ (c .if1 .taken)) in
     sweep-past (s .pre .0) (s .pre .1) (s .args .write) (s .args .out .now) (s .pre .2) S (l .loop-test .taken) _ (spans b) put (omega (arith, past, top (l .before .before)))
 
 same-length : tie.Need-same-length Inv-loop μ-loop
@@ -105,7 +102,7 @@ short c =
     let d = c .before in
     let b = d .before .before .before .before .before .before in
     let l = b .before .before in
-    let less = ltb-true (value (b .span-at .result .last)) (value (l .before .before .before .ones .result)) (sym (d .less .ensures) ∙ not-false _ (c .if1 .left)) in
+    let less = ltb-true (value (b .span-at .result .last)) (value (l .before .before .ones .result)) (sym (d .less .ensures) ∙ not-false _ (c .if1 .left)) in
     omega (arith, less, top (l .before .before))
 
 behind-requires : tie.Need-behind-requires Inv-loop μ-loop
@@ -144,7 +141,7 @@ put-gap-requires c κs =
     let S = e .before .loop .inv in
     let t = top (e .before .before) in (
       record { sized = s .pre .0 .sized; rises = omega (arith, t, S .below); below = omega (arith, t, pow-pos (sizeWidth (a .size))) },
-      subst (λ n. GapFits (a .size) (a .write) (value (e .before .loop .from)) n (e .before .loop .at) (e .before .loop .out)) (sym t)
+      subst (λ n. GapFits (a .size) (a .write) (e .before .loop .hi * 2 ^ 64 + e .before .loop .lo) n (e .before .loop .at) (e .before .loop .out)) (sym t)
           (end-fits (s .pre .0) (s .pre .1) (a .write) (a .out .now) (s .pre .2) S (e .loop-test .left)),
     )
 
@@ -155,7 +152,7 @@ returns-2 c =
     let s = ended e in
     let a = s .args in
     sweep-end (s .pre .0) (s .pre .1) (a .write) (a .out .now) (s .pre .2) (e .before .loop .inv) (e .loop-test .left)
-    (gap-same (a .size) (a .write) (value (e .before .loop .from)) _ _ (top (e .before .before)) (p .put-gap .ensures))
+    (gap-same (a .size) (a .write) (e .before .loop .hi * 2 ^ 64 + e .before .loop .lo) _ _ (top (e .before .before)) (p .put-gap .ensures))
 
 same-length-2 : tie.Need-same-length-2 Inv-loop μ-loop
 same-length-2 c = let e = c .before .before .before .before in if-length (ended e .args .write) (λ t. omega (arith, ended e .pre .2 t)) (returns-2 c)
@@ -170,7 +167,6 @@ sweep-spec =
     mul-ones
     cast-ones
     ones-requires
-    from-halves-requires
     loop-holds
     place-requires
     span-at-requires
