@@ -1,5 +1,5 @@
 -- What a call answers and leaves that writes the records of some blocks, and a second call on what it left. Assumes nothing.
-use mathlib.Core.Path.{_≡_, refl, sym, ap, ap₂, _∙_}
+use mathlib.Core.Path.{_≡_, refl, sym, ap, ap₂, subst, _∙_}
 use mathlib.Core.Logic.{inl, inr, _↔_}
 use mathlib.Core.Bool.{true}
 use mathlib.Core.List.{List, [], _∷_, _++_, append-nil}
@@ -21,6 +21,7 @@ use Rattle.records.proofs.RecordLaws.{record-length}
 use Rattle.records.proofs.Claims.{records-read-back, records-size}
 use Rattle.record_lists.specs.RecordLists.{isFamily, familyWidth, mostRecords, listBlocks, listRefusal}
 use Rattle.record_lists.proofs.AnswerLaws.{family-octets, family-size}
+use Rattle.record_lists.proofs.GoodLaws.{fine}
 use Rattle.record_lists.proofs.ListFormLaws.{count-is}
 use Rattle.record_lists.proofs.Claims.{six-numbers, number-0, number-10, written-read, written-fine}
 use Rattle.gather.specs.Gather.{blocksAnswer, blocksLeave, HoldsFewestOf}
@@ -42,6 +43,33 @@ not-3 f bytes e = elim (six-numbers f bytes) [
 -- a list that is not refused is of blocks
 pub fine-valid : (f : ℕ) (bytes : List ℕ) → AllBelow 256 bytes → listRefusal f bytes ≡ 0 → AllBlocks (familyWidth f) (listBlocks f bytes)
 fine-valid f bytes small e = number-0 f bytes small .0 e .3
+
+-- ---- two lists
+
+-- where neither is refused, the blocks alone decide
+pub as-blocks : (f : ℕ) (bytes others : List ℕ) (bs cs : List Block) → listRefusal f bytes ≡ 0 → listRefusal f others ≡ 0 → bs ≡ cs → (buf : List ℕ)
+    → (blocksAnswer f bytes bs buf ≡ blocksAnswer f others cs buf) × (blocksLeave f bytes bs buf ≡ blocksLeave f others cs buf)
+unfolding blocksAnswer blocksLeave
+as-blocks f bytes others bs cs e g same buf = rw (e, g, same) (refl, refl)
+
+-- a second call on the records of the first
+module _ (f : ℕ) (bs : List Block) (valid : AllBlocks (familyWidth f) bs) (known : isFamily f ≡ true) (seen : List ℕ) (is : seen ≡ recordsOf (familyWidth f) bs) where
+  pub seen-blocks : listBlocks f seen ≡ bs
+  seen-blocks = ap (listBlocks f) is ∙ written-read f bs valid
+
+  pub seen-fine : length bs ≤ mostRecords → listRefusal f seen ≡ 0
+  seen-fine few = ap (listRefusal f) is ∙ written-fine f bs valid known few
+
+  pub seen-many : mostRecords < length bs → listRefusal f seen ≡ 10
+  seen-many many =
+      let (whole, count) = count-is f seen (length bs) (ap length is ∙ records-size (familyWidth f) bs) in
+      number-10 f seen .1 (known, whole, omega (arith, count, many))
+
+-- a call that is refused by 10
+pub refused-by-10 : (f : ℕ) (bytes : List ℕ) (bs : List Block) (buf : List ℕ) → listRefusal f bytes ≡ 10 → (blocksAnswer f bytes bs buf ≡ refuses (0, 0) TooMany) × (blocksLeave f bytes bs buf ≡ buf)
+refused-by-10 f bytes bs buf e = let r = list-refused f bytes buf bs TooMany e in (sym (r .0), sym (r .1))
+
+-- ---- one call
 
 module _ (f : ℕ) (bytes : List ℕ) (bs : List Block) (old : List ℕ) where
   abbrev W : ℕ
@@ -116,17 +144,36 @@ module _ (f : ℕ) (bytes : List ℕ) (bs : List Block) (old : List ℕ) where
     pub held : take n (blocksLeave f bytes bs old) ≡ records
     held = ap (take n) left-is ∙ take-at records (drop n old) n (sym good-bytes)
 
-    module _ (valid : AllBlocks W bs) where
-      read : readRecords W count (blocksLeave f bytes bs old) ≡ bs
-      read = ap₂ (λ (k : ℕ) l. readRecords W k l) good-count left-is ∙ records-read-back W (family-octets f) bs valid (drop n old)
+    -- its blocks are the fewest of a set, where the list is not refused
+    module _ {S : ℕ → Type 0} (few : listRefusal f bytes ≡ 0 → Fewest W S bs) where
+      all : AllBlocks W bs
+      all = few good-fine .blocks
 
-      pub holds : {S : ℕ → Type 0} → Fewest W S bs → HoldsFewestOf W S (count, n) old (blocksLeave f bytes bs old)
-      holds few = record {
-        fewest = rw read few;
-        blocks = good-count ∙ sym (ap length read);
+      read : readRecords W count (blocksLeave f bytes bs old) ≡ bs
+      read = ap₂ (λ (k : ℕ) l. readRecords W k l) good-count left-is ∙ records-read-back W (family-octets f) bs all (drop n old)
+
+      pub holds : HoldsFewestOf W S (count, n) old (blocksLeave f bytes bs old)
+      holds = record {
+        fewest = subst (Fewest W S) (sym read) (few good-fine);
         bytes = good-bytes ∙ records-size W bs ∙ ap (λ (k : ℕ). recordSize W * k) (sym good-count);
         whole = left-is ∙ ap (λ cs. recordsOf W cs ++ drop n old) (sym read);
       }
+
+      -- a second call on the records that the buffer holds
+      abbrev seen : List ℕ
+      seen = take n (blocksLeave f bytes bs old)
+
+      module _ (buf : List ℕ) where
+        -- that makes the blocks cs of them answers and leaves what a call on the first list does that writes cs
+        pub second : (make : List Block → List Block) (cs : List Block) → make bs ≡ cs → count ≤ mostRecords
+            → (blocksAnswer f seen (make (listBlocks f seen)) buf ≡ blocksAnswer f bytes cs buf) × (blocksLeave f seen (make (listBlocks f seen)) buf ≡ blocksLeave f bytes cs buf)
+        second make cs e less =
+            let known = fine f bytes good-fine .family in
+            as-blocks f seen bytes _ _ (seen-fine f bs all known seen held (omega (arith, less, good-count))) good-fine (ap make (seen-blocks f bs all known seen held) ∙ e) buf
+
+        -- or is refused by 10
+        pub second-many : (cs : List Block) → mostRecords < count → (blocksAnswer f seen cs buf ≡ refuses (0, 0) TooMany) × (blocksLeave f seen cs buf ≡ buf)
+        second-many cs many = refused-by-10 f seen cs buf (seen-many f bs all (fine f bytes good-fine .family) seen held (omega (arith, many, good-count)))
 
 -- the records of a fewest list are no longer than those of another rising list with that cover
 pub shortest : (W : ℕ) {S : ℕ → Type 0} {bs : List Block} → Fewest W S bs → (cs : List Block) → AllBlocks W cs → Rising cs → Exactly W S cs
@@ -172,28 +219,3 @@ zeros f =
 -- so many bytes are the records of k blocks at most, where each of up to 512 records adds W - 1 blocks to one
 pub enough : (W m k : ℕ) → m ≤ 512 → k ≤ 1 + m * (W - 1) → recordSize W * k ≤ recordSize W * (1 + 512 * (W - 1))
 enough W m k few most = mul-le-mul-left (recordSize W) (omega (arith, most, mul-le-mul-right (W - 1) few))
-
--- ---- two lists
-
--- where neither is refused, the blocks alone decide
-pub as-blocks : (f : ℕ) (bytes others : List ℕ) (bs cs : List Block) → listRefusal f bytes ≡ 0 → listRefusal f others ≡ 0 → bs ≡ cs → (buf : List ℕ)
-    → (blocksAnswer f bytes bs buf ≡ blocksAnswer f others cs buf) × (blocksLeave f bytes bs buf ≡ blocksLeave f others cs buf)
-unfolding blocksAnswer blocksLeave
-as-blocks f bytes others bs cs e g same buf = rw (e, g, same) (refl, refl)
-
--- a second call on the records of the first
-module _ (f : ℕ) (bs : List Block) (valid : AllBlocks (familyWidth f) bs) (known : isFamily f ≡ true) (seen : List ℕ) (is : seen ≡ recordsOf (familyWidth f) bs) where
-  pub seen-blocks : listBlocks f seen ≡ bs
-  seen-blocks = ap (listBlocks f) is ∙ written-read f bs valid
-
-  pub seen-fine : length bs ≤ mostRecords → listRefusal f seen ≡ 0
-  seen-fine few = ap (listRefusal f) is ∙ written-fine f bs valid known few
-
-  pub seen-many : mostRecords < length bs → listRefusal f seen ≡ 10
-  seen-many many =
-      let (whole, count) = count-is f seen (length bs) (ap length is ∙ records-size (familyWidth f) bs) in
-      number-10 f seen .1 (known, whole, omega (arith, count, many))
-
--- a call that is refused by 10
-pub refused-by-10 : (f : ℕ) (bytes : List ℕ) (bs : List Block) (buf : List ℕ) → listRefusal f bytes ≡ 10 → (blocksAnswer f bytes bs buf ≡ refuses (0, 0) TooMany) × (blocksLeave f bytes bs buf ≡ buf)
-refused-by-10 f bytes bs buf e = let r = list-refused f bytes buf bs TooMany e in (sym (r .0), sym (r .1))

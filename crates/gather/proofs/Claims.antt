@@ -45,15 +45,11 @@ module _ (f : ℕ) (bytes : List ℕ) (small : AllBelow 256 bytes) where
     -- "The fewest blocks covering exactly the same addresses, rising, in a second lent buffer": so a good answer's records are. "Every other rising
     -- list with the same cover must be longer."
     pub gather-fewest : gatherAnswer f bytes old ≡ gives (count, n) → HoldsFewestOf W (CoveredBy W bs) (count, n) old (gatherLeaves f bytes old)
-    gather-fewest good =
-        let few = gathered-few (laws.good-fine f bytes (gatheredList f bytes) old count n good) in
-        laws.holds f bytes (gatheredList f bytes) old count n good (few .blocks) few
+    gather-fewest good = laws.holds f bytes (gatheredList f bytes) old count n good gathered-few
 
     -- "Also give the list of what is not covered, by the same rule."
     pub uncovered-fewest : uncoveredAnswer f bytes old ≡ gives (count, n) → HoldsFewestOf W (λ x. ¬ CoveredBy W bs x) (count, n) old (uncoveredLeaves f bytes old)
-    uncovered-fewest good =
-        let few = uncovered-few (laws.good-fine f bytes (uncoveredList f bytes) old count n good) in
-        laws.holds f bytes (uncoveredList f bytes) old count n good (few .blocks) few
+    uncovered-fewest good = laws.holds f bytes (uncoveredList f bytes) old count n good uncovered-few
 
   -- ---- a second call on the records that the first has left
 
@@ -65,22 +61,15 @@ module _ (f : ℕ) (bytes : List ℕ) (small : AllBelow 256 bytes) where
     -- gathering the first list answers, and leaves what that leaves, whatever the second buffer.
     pub twice : count ≤ mostRecords
         → let seen = take n (uncoveredLeaves f bytes old) in (uncoveredAnswer f seen buf ≡ gatherAnswer f bytes buf) × (uncoveredLeaves f seen buf ≡ gatherLeaves f bytes buf)
-    twice few =
+    twice =
         let us = uncoveredList f bytes in
         let fine = laws.good-fine f bytes us old count n good in
-        let all = uncovered-few fine .blocks in
-        let is = laws.held f bytes us old count n good in
-        laws.as-blocks f _ bytes _ _ (laws.seen-fine f us all (known fine) _ is (omega (arith, few, laws.good-count f bytes us old count n good))) fine
-        (ap (uncoveredBlocks W) (laws.seen-blocks f us all (known fine) _ is) ∙ lists.twice W bs (valid fine)) buf
+        laws.second f bytes us old count n good uncovered-few buf (uncoveredBlocks W) (gatheredList f bytes) (lists.twice W bs (valid fine))
 
     -- Beyond the limit the second call is refused by 10.
     pub twice-too-many : mostRecords < count
         → let seen = take n (uncoveredLeaves f bytes old) in (uncoveredAnswer f seen buf ≡ refuses (0, 0) TooMany) × (uncoveredLeaves f seen buf ≡ buf)
-    twice-too-many many =
-        let us = uncoveredList f bytes in
-        let fine = laws.good-fine f bytes us old count n good in
-        let is = laws.held f bytes us old count n good in
-        laws.refused-by-10 f _ _ buf (laws.seen-many f us (uncovered-few fine .blocks) (known fine) _ is (omega (arith, many, laws.good-count f bytes us old count n good)))
+    twice-too-many = laws.second-many f bytes (uncoveredList f bytes) old count n good uncovered-few buf _
 
   -- Gathering a gathered list changes nothing.
   pub again : (old : List ℕ) (count n : ℕ) → gatherAnswer f bytes old ≡ gives (count, n) → (buf : List ℕ)
@@ -88,10 +77,9 @@ module _ (f : ℕ) (bytes : List ℕ) (small : AllBelow 256 bytes) where
   again old count n good buf =
       let gs = gatheredList f bytes in
       let fine = laws.good-fine f bytes gs old count n good in
-      let all = gathered-few fine .blocks in
-      let is = laws.held f bytes gs old count n good in
-      let few : length gs ≤ mostRecords = omega (arith, lists.no-longer W bs (valid fine), list.as-many f bytes, list.fine f bytes fine .few) in
-      laws.as-blocks f _ bytes _ _ (laws.seen-fine f gs all (known fine) _ is few) fine (ap (gatheredBlocks W) (laws.seen-blocks f gs all (known fine) _ is) ∙ lists.again W bs (valid fine)) buf
+      let less = lists.no-longer W bs (valid fine) in
+      let few : count ≤ mostRecords = omega (arith, laws.good-count f bytes gs old count n good, less, list.as-many f bytes, list.fine f bytes fine .few) in
+      laws.second f bytes gs old count n good gathered-few buf (gatheredBlocks W) gs (lists.again W bs (valid fine)) few
 
   -- ---- refusal 3, by the cover
 
@@ -235,13 +223,13 @@ pub left-over : (uncoveredAnswer 4 (64 ∷ 0 ∷ 0 ∷ 0 ∷ 2 ∷ []) (replicat
 unfolding blocksAnswer blocksLeave uncoveredBlocks listBlocks
 left-over = (refl, refl)
 
--- The order of refusals: family 0 with a part of a record is 9; 2 stands before 10; a record's length 33 is 4, before the bits of a later record;
--- and each of them before 3.
+-- The order of refusals: family 0 with a part of a record is 9; 2 stands before 10, which begins at 513 records; of a record with the length 33
+-- and one with a bit beyond its length the first decides, whichever it is; and each of them stands before 3.
 pub nine-first : gatherAnswer 0 (1 ∷ []) [] ≡ refuses (0, 0) WrongFamily
 unfolding blocksAnswer
 nine-first = refl
 
-pub two-before-ten : gatherAnswer 4 (replicate 2561 0) [] .number ≡ 2
+pub two-before-ten : gatherAnswer 4 (replicate 2566 0) [] .number ≡ 2
 unfolding blocksAnswer
 two-before-ten = refl
 
@@ -249,9 +237,17 @@ pub ten : gatherAnswer 4 (replicate 2565 0) [] .number ≡ 10
 unfolding blocksAnswer
 ten = refl
 
-pub first-bad-decides : uncoveredAnswer 4 (0 ∷ 0 ∷ 0 ∷ 0 ∷ 33 ∷ 0 ∷ 0 ∷ 0 ∷ 1 ∷ 31 ∷ []) [] .number ≡ 4
+pub up-to-512 : gatherAnswer 4 (replicate 2560 0) (replicate 5 1) ≡ gives (1, 5)
+unfolding blocksAnswer gatheredBlocks listBlocks
+up-to-512 = refl
+
+pub first-bad-by-5 : gatherAnswer 4 (0 ∷ 0 ∷ 0 ∷ 1 ∷ 31 ∷ 0 ∷ 0 ∷ 0 ∷ 0 ∷ 33 ∷ []) [] .number ≡ 5
 unfolding blocksAnswer listBlocks
-first-bad-decides = refl
+first-bad-by-5 = refl
+
+pub first-bad-by-4 : uncoveredAnswer 4 (0 ∷ 0 ∷ 0 ∷ 0 ∷ 33 ∷ 0 ∷ 0 ∷ 0 ∷ 1 ∷ 31 ∷ []) [] .number ≡ 4
+unfolding blocksAnswer listBlocks
+first-bad-by-4 = refl
 
 pub three-last : gatherAnswer 4 (10 ∷ 0 ∷ 0 ∷ 0 ∷ 31 ∷ []) (0 ∷ 0 ∷ 0 ∷ 0 ∷ []) ≡ refuses (0, 0) NoRoom
 unfolding blocksAnswer gatheredBlocks listBlocks

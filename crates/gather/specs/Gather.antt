@@ -51,8 +51,7 @@ uncoveredLeaves f bytes old = blocksLeave f bytes (uncoveredList f bytes) old
 -- which has W bits, are the fewest of the set S. `HoldsFewest` of ranges, of any set.
 pub record HoldsFewestOf (W : ℕ) (S : ℕ → Type 0) (answered : ℕ × ℕ) (old left : List ℕ) : Type 0 where
   pub fewest : Fewest W S (readRecords W (answered .0) left)
-  -- how many records the call has written, and the bytes these fill
-  pub blocks : answered .0 ≡ length (readRecords W (answered .0) left)
+  -- the bytes that these records fill
   pub bytes : answered .1 ≡ recordSize W * answered .0
   -- end to end from the start of the buffer, and later bytes stay
   pub whole : left ≡ recordsOf W (readRecords W (answered .0) left) ++ drop (answered .1) old

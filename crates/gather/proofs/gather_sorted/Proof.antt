@@ -1,6 +1,6 @@
 -- `gather::gather_sorted` meets its contract. Assumes nothing.
-use mathlib.Core.Path.{sym}
 use Prim.Native.Nat.{_≤_}
+use native.Mathlib.Omega.{arith}
 use borrow.Author.Needs.{needs}
 use lib.ListN.{length}
 use lib.Seq.{length-take-le}
@@ -24,7 +24,7 @@ long : (c : tie.After-order-records) → begun c .args .n ≤ length (c .order-r
 long c = search needs
 
 slice-aggregate-pass : tie.Need-slice-aggregate-pass
-slice-aggregate-pass c = sym (length-take-le _ _ (long (c .before .before)))
+slice-aggregate-pass c = let o = c .before .before in omega (arith, length-take-le (begun o .args .n) (o .order-records .last .1 .1 .1 .0) (long o))
 
 pass-requires : tie.Need-pass-requires
 pass-requires c κs =

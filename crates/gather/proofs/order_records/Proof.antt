@@ -1,6 +1,6 @@
 -- `gather::order_records` meets its contract. Assumes nothing.
-use mathlib.Core.Path.{sym}
 use Prim.Native.Nat.{_≤_}
+use native.Mathlib.Omega.{arith}
 use borrow.Author.Needs.{needs}
 use lib.ListN.{length}
 use lib.Seq.{length-take-le}
@@ -31,13 +31,13 @@ lo-long : (c : tie.After-load-keys) → begun c .args .n ≤ length (c .load-key
 lo-long c = search needs
 
 slice-aggregate-sort-keys : tie.Need-slice-aggregate-sort-keys
-slice-aggregate-sort-keys c = sym (length-take-le _ _ (hi-long (c .before .before .before)))
+slice-aggregate-sort-keys c = let l = c .before .before .before in omega (arith, length-take-le (begun l .args .n) (l .load-keys .last .1 .1 .1 .0) (hi-long l))
 
 array-share-prefix-lo : tie.Need-array-share-prefix-lo
 array-share-prefix-lo c = search needs
 
 slice-aggregate-sort-keys-2 : tie.Need-slice-aggregate-sort-keys-2
-slice-aggregate-sort-keys-2 c = sym (length-take-le _ _ (lo-long (c .before .before .before .before)))
+slice-aggregate-sort-keys-2 c = let l = c .before .before .before .before in omega (arith, length-take-le (begun l .args .n) (l .load-keys .last .1 .1 .1 .1 .0) (lo-long l))
 
 sort-keys-requires : tie.Need-sort-keys-requires
 sort-keys-requires c κs = search needs

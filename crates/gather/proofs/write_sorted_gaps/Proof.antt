@@ -1,6 +1,6 @@
 -- `gather::write_sorted_gaps` meets its contract. Assumes nothing.
-use mathlib.Core.Path.{sym}
 use Prim.Native.Nat.{_≤_}
+use native.Mathlib.Omega.{arith}
 use borrow.Author.Needs.{needs}
 use lib.ListN.{length}
 use lib.Seq.{length-take-le}
@@ -24,7 +24,7 @@ long : (c : tie.After-order-records) → begun c .args .n ≤ length (c .order-r
 long c = search needs
 
 slice-aggregate-write-gaps : tie.Need-slice-aggregate-write-gaps
-slice-aggregate-write-gaps c = sym (length-take-le _ _ (long (c .before .before)))
+slice-aggregate-write-gaps c = let o = c .before .before in omega (arith, length-take-le (begun o .args .n) (o .order-records .last .1 .1 .1 .0) (long o))
 
 write-gaps-requires : tie.Need-write-gaps-requires
 write-gaps-requires c κs =
