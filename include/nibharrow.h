@@ -1,5 +1,5 @@
 /*
- * Nibharrow: IP addresses read, written, split and turned into blocks.
+ * Nibharrow: IP addresses read, written, split and turned into blocks, and lists of blocks gathered.
  *
  * Every function is proved to give, for each input, the one answer that its rules fix, to read and write no byte
  * outside the buffers it is lent, and to return. It keeps no state, allocates nothing and may be called from several
@@ -23,7 +23,7 @@
  * Answers. Each begins with `refusal`: 0 for a good answer, or one of the numbers below. Where it is not 0 every other
  * field is 0, and no byte of a lent buffer has changed. A good answer changes only the bytes it counts, at the start of
  * the buffer. Where several refusals hold, the first of 9, 1, 2, 4, 5, 6, 7, 8, 3 is given; bytes that are no address
- * have no family, so 9 is given of addresses alone. A call on records gives the first of 9, 2 and 10, then the number
+ * have no family, so of bytes 9 is given only where they are addresses. A call on records gives the first of 9, 2 and 10, then the number
  * of the first bad record, 4 before 5, then 3. Answers may have padding: compare them field by field.
  */
 #ifndef NIBHARROW_H

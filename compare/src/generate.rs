@@ -2,8 +2,8 @@
 //! damaged on purpose.
 
 use crate::case::Case;
-use crate::lists::MOST_RECORDS;
 use crate::random::Random;
+use crate::rules::MOST_RECORDS;
 
 /// The bytes that mean something in some form, and a few that only look so.
 const ALPHABET: &[u8] = b"0123456789abcdefABCDEFxX.:/ 0001..::/%-+g\t";

@@ -2,7 +2,7 @@
 
 use crate::case::Case;
 use crate::generate;
-use crate::lists::MOST_RECORDS;
+use crate::rules::MOST_RECORDS;
 use crate::run::Run;
 use crate::sweeps::Sweep;
 
@@ -59,7 +59,7 @@ fn compare_tight(run: &mut Run, records: &[u8], family: u32) {
     }
 }
 
-/// Every list of one, two or three of the 15 blocks of three bits: at the start of all addresses, at
+/// Every list of one or two, and every set of three, of the 15 blocks of three bits: at the start of all addresses, at
 /// their end, and of the first three bits of an address.
 fn small_lists(run: &mut Run) {
     for (family, width) in FAMILIES {
@@ -162,15 +162,15 @@ fn bad_records(run: &mut Run) {
 fn several_refusals(run: &mut Run) {
     for (family, width) in FAMILIES {
         let (good, long, beyond) = ((1 << (width - 1), 1), (0, width + 1), (1, width - 1));
-        let both = (1, 255);
+        let long_and_odd = (1, 255);
         for bad in [
             &[][..],
             &[long],
             &[beyond],
-            &[both],
+            &[long_and_odd],
             &[long, beyond],
             &[beyond, long],
-            &[beyond, both],
+            &[beyond, long_and_odd],
         ] {
             for count in [bad.len(), MOST_RECORDS, MOST_RECORDS + 1] {
                 let rest = vec![good; count - bad.len()];

@@ -3,11 +3,8 @@
 
 use crate::case::{Answer, Case};
 use crate::judge::Judge;
-use crate::rules::TOO_MANY;
+use crate::rules::{MOST_RECORDS, TOO_MANY};
 use std::collections::BTreeMap;
-
-/// The most records that a call takes.
-pub const MOST_RECORDS: usize = 512;
 
 /// The first and the last address of a block.
 type Span = (u128, u128);
@@ -44,11 +41,21 @@ pub fn check(judge: &mut Judge, case: &Case) -> bool {
         same(judge, case, &of(case, bytes.clone()), (answer, &bytes));
         return true;
     }
+    uncovered_again(judge, case, (answer, bytes), found.len());
+    true
+}
+
+/// What is not covered is that of the gathered list, and, asked for again, the gathered list.
+fn uncovered_again(judge: &mut Judge, case: &Case, uncovered: (Answer, Vec<u8>), blocks: usize) {
+    let (answer, bytes) = uncovered;
+    let (Case::Gather { records, family } | Case::Uncovered { records, family }) = case else {
+        return;
+    };
     let (records, family) = (records.clone(), *family);
     let (gathered, list) = Case::Gather { records, family }.library_ample();
     same(judge, case, &of(case, list.clone()), (answer, &bytes));
     let twice = of(case, bytes);
-    if found.len() <= MOST_RECORDS {
+    if blocks <= MOST_RECORDS {
         same(judge, case, &twice, (gathered, &list));
     } else {
         let too_many = Answer {
@@ -57,7 +64,6 @@ pub fn check(judge: &mut Judge, case: &Case) -> bool {
         };
         same(judge, case, &twice, (too_many, &[]));
     }
-    true
 }
 
 /// The same call on other records of the family.

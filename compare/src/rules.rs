@@ -20,7 +20,7 @@ pub const TOO_MANY: u32 = 10;
 
 const LONGEST_TEXT: usize = 64;
 const LONGEST_LINE: usize = 129;
-const MOST_RECORDS: usize = 512;
+pub const MOST_RECORDS: usize = 512;
 
 pub fn read_address(text: &[u8], family: u32, out: &mut [u8]) -> Result<usize, u32> {
     if ![0, 4, 6].contains(&family) {

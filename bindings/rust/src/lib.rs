@@ -34,8 +34,8 @@
 //! Text is any bytes, a `&str` or a `&[u8]`, of at most 64. A zero byte in it or a blank around it
 //! is a wrong byte.
 //!
-//! A call whose name ends in `_into` or `_records` writes to a buffer of the caller's and allocates
-//! nothing. A good answer changes only the bytes it counts, at the start of the buffer; a refused
+//! A call that is lent a buffer, such as one whose name ends in `_into` or `_records`, writes to it and
+//! allocates nothing. A good answer changes only the bytes it counts, at the start of the buffer; a refused
 //! call changes none. [`room`] has the sizes that always suffice. [`exact`] has the calls of the C
 //! interface on slices, with every field of their answers.
 //!

@@ -193,6 +193,23 @@ fn functions_are_those_of_the_header() {
     assert_eq!(functions, functions_of_raw());
 }
 
+/// The library defines the functions of the header and nothing else, and needs two of the C library.
+#[test]
+fn symbols_are_those_that_the_guide_names() {
+    let listed = run(Command::new("nm").arg("-g").arg(env!("NIBHARROW_LIBRARY")));
+    let symbols = |needed: bool| -> Vec<&str> {
+        let lines = listed.lines().map(|line| line.split_whitespace().rev());
+        let named = lines.filter_map(|mut words| Some((words.next()?, words.next()?)));
+        let asked = named.filter(|(_, kind)| (*kind == "U") == needed);
+        asked.map(|(name, _)| name).collect()
+    };
+    assert_eq!(symbols(true), ["memcpy", "memset"]);
+    let name = |function: String| function.split('(').next().unwrap().to_string();
+    let mut functions: Vec<String> = functions_of_header().into_iter().map(name).collect();
+    functions.sort();
+    assert_eq!(symbols(false), functions);
+}
+
 #[test]
 fn calls_of_c_alone_are_refused() {
     let printed = run_c("bindings/rust/tests/c/c_only.c", "-std=c99");

@@ -522,13 +522,13 @@ fn refusals_of_records() {
     const GOOD: [u8; 5] = [10, 0, 0, 0, 8];
     const LONG: [u8; 5] = [10, 0, 0, 0, 33];
     const BEYOND: [u8; 5] = [10, 0, 0, 1, 31];
-    // Both hold of it, and the length is asked about first.
-    const BOTH: [u8; 5] = [10, 0, 0, 1, 255];
+    // The last bit is set, but beyond a length above the width there is none.
+    const LONG_AND_ODD: [u8; 5] = [10, 0, 0, 1, 255];
     for call in [gather_records as RecordsCall, uncovered_records] {
         for (records, refusal) in [
             ([GOOD, LONG, BEYOND].concat(), LengthTooLarge),
             ([GOOD, BEYOND, LONG].concat(), BitsBeyondLength),
-            ([GOOD, BOTH].concat(), LengthTooLarge),
+            ([GOOD, LONG_AND_ODD].concat(), LengthTooLarge),
             ([LONG; MOST_RECORDS].concat(), LengthTooLarge),
             ([LONG; MOST_RECORDS + 1].concat(), TooMany),
             (

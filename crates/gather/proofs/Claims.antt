@@ -223,17 +223,18 @@ pub left-over : (uncoveredAnswer 4 (64 ∷ 0 ∷ 0 ∷ 0 ∷ 2 ∷ []) (replicat
 unfolding blocksAnswer blocksLeave uncoveredBlocks listBlocks
 left-over = (refl, refl)
 
--- The order of refusals: family 0 with a part of a record is 9; 2 stands before 10, which begins at 513 records; of a record with the length 33
--- and one with a bit beyond its length the first decides, whichever it is; and each of them stands before 3.
+-- The order of refusals: family 0 with a part of a record is 9; of records with the length 255, 2 stands before 10, and 10, which begins at 513
+-- records, before 4; of a record with the length 33 and one with a bit beyond its length the first decides, whichever it is; and each of them
+-- stands before 3.
 pub nine-first : gatherAnswer 0 (1 ∷ []) [] ≡ refuses (0, 0) WrongFamily
 unfolding blocksAnswer
 nine-first = refl
 
-pub two-before-ten : gatherAnswer 4 (replicate 2566 0) [] .number ≡ 2
+pub two-before-ten : gatherAnswer 4 (replicate 2566 255) [] .number ≡ 2
 unfolding blocksAnswer
 two-before-ten = refl
 
-pub ten : gatherAnswer 4 (replicate 2565 0) [] .number ≡ 10
+pub ten : gatherAnswer 4 (replicate 2565 255) [] .number ≡ 10
 unfolding blocksAnswer
 ten = refl
 

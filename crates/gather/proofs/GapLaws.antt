@@ -29,7 +29,7 @@ use Rattle.record_lists.specs.Inner.{IsSize, sizeWidth}
 use Rattle.record_lists.proofs.ListLaws.{size-back}
 use Rattle.record_lists.proofs.GoodLaws.{reads-length}
 use Rattle.gather.specs.declared.Span.{Span}
-use Rattle.gather.specs.Inner.{noBlock, Listed, Spans, picks, ordered, InOrder, GapFits, PutsIf, PutsBefore, WritesBlocks, mostUncovered}
+use Rattle.gather.specs.Inner.{outside, Listed, Spans, picks, ordered, InOrder, GapFits, PutsIf, PutsBefore, WritesBlocks, mostUncovered}
 use Rattle.gather.proofs.PutLaws.{records-append, records-none}
 use Rattle.gather.proofs.WriteLaws.{wrote-put}
 use Rattle.gather.proofs.PassLaws.{next-block, picks-length, picks-at, picks-next, picks-done}
@@ -135,14 +135,14 @@ module _ {size n : ℕ} {bytes xs : List ℕ} (L : Listed size n bytes) (O : InO
       omega (arith, records-length W (uncoveredBlocks W ps), ap (λ (m : ℕ). m * k) (size-back size (L .sized)), bytes-most size n k (L .sized) (L .few) (uncovered-few L))
 
   left-valid : (k : ℕ) → AllBlocks W (left k)
-  left-valid k = valid-all W noBlock (left k) (λ i h.
+  left-valid k = valid-all W outside (left k) (λ i h.
       let l : i < n - k = omega (arith, picks-length g k (n - k)) in
       subst (IsBlock W) (sym (picks-at g k (n - k) i l)) (next-block L O (k + i) (omega arith)))
 
   pub sweep-first : (a : ℕ) → a ≡ 0 → Sweeping size n write bytes xs old 0 a 0 old
   sweep-first a z =
       let whole : uncoveredBlocks W ps ≡ gapsFrom W a (left 0) =
-      gaps-start W noBlock ps (L .valid) (picks g 0 n) (O .members) (O .rising) ∙ ap₂ (λ (x k : ℕ). gapsFrom W x (picks g 0 k)) (sym z) (let e : n ≡ n - 0 = omega arith in e) in
+      gaps-start W outside ps (L .valid) (picks g 0 n) (O .members) (O .rising) ∙ ap₂ (λ (x k : ℕ). gapsFrom W x (picks g 0 k)) (sym z) (let e : n ≡ n - 0 = omega arith in e) in
       record {
         bound = omega arith;
         below = omega (arith, pow-pos W, z);

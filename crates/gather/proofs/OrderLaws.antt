@@ -21,11 +21,11 @@ use Rattle.record_lists.specs.Inner.{sizeWidth}
 use Rattle.record_lists.proofs.GoodLaws.{reads-length}
 use Rattle.sort.specs.Order.{key, Sorted, Sorting}
 use Rattle.sort.proofs.Claims.{keys-rise, room-true}
-use Rattle.gather.specs.Inner.{noBlock, recordAt, Listed, placeOf, picks, ordered, InOrder, Loaded, OrderedBy}
+use Rattle.gather.specs.Inner.{outside, recordAt, Listed, placeOf, picks, ordered, InOrder, Loaded, OrderedBy}
 use Rattle.gather.proofs.PassLaws.{reads-at, picks-length, picks-at}
 
 -- a list that passes the test rises
-rises-at : (bs : List Block) → isRising bs ≡ true → (i : ℕ) → suc i < length bs → getD bs i noBlock .address ≤ getD bs (suc i) noBlock .address
+rises-at : (bs : List Block) → isRising bs ≡ true → (i : ℕ) → suc i < length bs → getD bs i outside .address ≤ getD bs (suc i) outside .address
 unfolding isRising
 rises-at [] r i h = absurd (omega arith)
 rises-at (b ∷ []) r i h = absurd (omega arith)
@@ -102,16 +102,16 @@ module _ {size n : ℕ} {bytes : List ℕ} (L : Listed size n bytes) where
       as-many : length (picks g 0 n) ≡ n
       as-many = picks-length g 0 n
 
-      pick : (i : ℕ) → i < n → getD (picks g 0 n) i noBlock ≡ g i
+      pick : (i : ℕ) → i < n → getD (picks g 0 n) i outside ≡ g i
       pick i h = picks-at g 0 n i h ∙ ap g (let e : 0 + i ≡ i = omega arith in e)
 
-      forth : Among noBlock ps (picks g 0 n)
+      forth : Among outside ps (picks g 0 n)
       forth i h =
           let l : i < n = omega (arith, whole) in
           let (p, q, e) = each i l in
           (p, omega (arith, as-many), reads-at U n bytes i l ∙ sym (pick p q ∙ ap (recordAt U bytes) e))
 
-      back : Among noBlock (picks g 0 n) ps
+      back : Among outside (picks g 0 n) ps
       back i h =
           let l : i < n = omega (arith, as-many) in
           (placeOf xs i, omega (arith, whole, inside i l), pick i l ∙ sym (reads-at U n bytes (placeOf xs i) (inside i l)))
@@ -121,7 +121,7 @@ module _ {size n : ℕ} {bytes : List ℕ} (L : Listed size n bytes) where
         places = λ j h. (omega (arith, L .few), has j h);
         inside = inside;
         members = (forth, back);
-        rising = rising-at noBlock (picks g 0 n) (λ i h.
+        rising = rising-at outside (picks g 0 n) (λ i h.
             let l : suc i < n = omega (arith, as-many) in
             omega (arith, ap (λ (b : Block). b .address) (pick i (omega arith)), ap (λ (b : Block). b .address) (pick (suc i) l), rising i l));
       }

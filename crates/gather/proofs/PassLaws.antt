@@ -24,14 +24,14 @@ use Rattle.record_lists.proofs.ListLaws.{size-back, list-small}
 use Rattle.record_lists.proofs.GoodLaws.{reads-length}
 use Rattle.gather.specs.declared.Span.{Span}
 use Rattle.gather.specs.declared.Run.{Run}
-use Rattle.gather.specs.Inner.{noBlock, recordAt, InList, Listed, Spans, picks, placeOf, ordered, InOrder, Built, Room, runBlocks, Turned, GoesOn, Starts}
+use Rattle.gather.specs.Inner.{outside, recordAt, InList, Listed, Spans, picks, placeOf, ordered, InOrder, Built, Room, runBlocks, Turned, GoesOn, Starts}
 use Rattle.gather.proofs.BlockLaws.{range-one}
 use Rattle.gather.proofs.PutLaws.{records-append, records-none}
 
 -- ---- the blocks of a list, by their indices
 
 module _ (W : ℕ) where
-  pub reads-at : (n : ℕ) (bytes : List ℕ) (i : ℕ) → i < n → getD (readRecords W n bytes) i noBlock ≡ recordAt W bytes i
+  pub reads-at : (n : ℕ) (bytes : List ℕ) (i : ℕ) → i < n → getD (readRecords W n bytes) i outside ≡ recordAt W bytes i
   unfolding readRecords
   reads-at zero bytes i h = absurd (omega arith)
   reads-at (suc n) bytes zero h = ap (λ (k : ℕ). readRecord W (drop k bytes)) (let z : 0 ≡ 0 * recordSize W = omega arith in z)
@@ -44,7 +44,7 @@ unfolding picks
 picks-length g j zero = refl
 picks-length g j (suc m) = ap suc (picks-length g (suc j) m)
 
-pub picks-at : (g : ℕ → Block) (j m i : ℕ) → i < m → getD (picks g j m) i noBlock ≡ g (j + i)
+pub picks-at : (g : ℕ → Block) (j m i : ℕ) → i < m → getD (picks g j m) i outside ≡ g (j + i)
 unfolding picks
 picks-at g j zero i h = absurd (omega arith)
 picks-at g j (suc m) zero h = ap g (let e : j ≡ j + 0 = omega arith in e)
@@ -75,7 +75,7 @@ module _ {size n : ℕ} {bytes : List ℕ} (L : Listed size n bytes) where
       record { sized = L .sized; inside = omega (arith, up, mul-suc size i, mul-comm size i, L .long); small = listed-small }
 
   pub listed-block : (i : ℕ) → i < n → IsBlock W (recordAt W bytes i)
-  listed-block i h = subst (IsBlock W) (reads-at W n bytes i h) (valid-at W noBlock (readRecords W n bytes) (L .valid) i (omega (arith, reads-length W n bytes)))
+  listed-block i h = subst (IsBlock W) (reads-at W n bytes i h) (valid-at W outside (readRecords W n bytes) (L .valid) i (omega (arith, reads-length W n bytes)))
 
   -- the gathered list has room where the list has
   pub gathered-room : length (recordsOf W (gatheredBlocks W (readRecords W n bytes))) ≤ length bytes
@@ -116,7 +116,7 @@ module _ {size n : ℕ} {bytes xs : List ℕ} (L : Listed size n bytes) (O : InO
   pub pass-none : n ≡ 0 → (old : List ℕ) → Puts old old 0 0 (recordsOf U (gatheredBlocks U ps))
   pass-none z old =
       let none : picks g 0 n ≡ [] = ap (picks g 0) (let e : n ≡ n - 0 = omega arith in e) ∙ picks-done g 0 n (omega arith) in
-      let nothing = runs-none U noBlock ps (L .valid) (subst (SameMembers noBlock ps) none (O .members)) in
+      let nothing = runs-none U outside ps (L .valid) (subst (SameMembers outside ps) none (O .members)) in
       subst (Puts old old 0 0) (sym (ap (recordsOf U) nothing ∙ records-none U)) (puts-none old 0)
 
   -- a run of one block
@@ -137,7 +137,7 @@ module _ {size n : ℕ} {bytes xs : List ℕ} (L : Listed size n bytes) (O : InO
       let last : value (r .last) ≡ after U (g 0) - 1 = ap value l ∙ p .last in
       let all : picks g 0 n ≡ g 0 ∷ left 1 = ap (picks g 0) (let e : n ≡ n - 0 = omega arith in e) ∙ picks-next g 0 n h in
       let whole : gatheredBlocks U ps ≡ runsFrom U (value (r .first)) (value (r .last)) (left 1) =
-      runs-start U noBlock ps (L .valid) (g 0) (left 1) (subst (SameMembers noBlock ps) all (O .members)) (subst Rising all (O .rising))
+      runs-start U outside ps (L .valid) (g 0) (left 1) (subst (SameMembers outside ps) all (O .members)) (subst Rising all (O .rising))
       ∙ ap₂ (λ (x y : ℕ). runsFrom U x y (left 1)) (sym first) (sym last) in
       record {
         bound = omega arith;

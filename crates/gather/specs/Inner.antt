@@ -25,15 +25,15 @@ use Rattle.gather.specs.declared.Run.{Run}
 abbrev pub numbers : Wide → ℕ → Block
 numbers a n = record { address = value a; length = n }
 
--- a block that stands for none
-abbrev pub noBlock : Block
-noBlock = record { address = 0; length = 0 }
+-- what `getD` answers outside a list
+abbrev pub outside : Block
+outside = record { address = 0; length = 0 }
 
 -- the block of the record at an index
 abbrev pub recordAt : ℕ → List ℕ → ℕ → Block
 recordAt W bytes i = readRecord W (drop (i * recordSize W) bytes)
 
--- a record at the index lies in the list, which is as long as n records at most
+-- the record at the index lies in the list, which has at most the 8,704 bytes of 512 records of IPv6
 pub record InList (size i : ℕ) (bytes : List ℕ) : Type 0 where
   pub sized : IsSize size
   pub inside : i * size + size ≤ length bytes
@@ -73,7 +73,7 @@ ordered W bytes xs j = recordAt W bytes (placeOf xs j)
 pub record InOrder (W n : ℕ) (bytes xs : List ℕ) : Type 0 where
   pub places : (j : ℕ) → j < n → HasPlace xs j
   pub inside : (j : ℕ) → j < n → placeOf xs j < n
-  pub members : SameMembers noBlock (readRecords W n bytes) (picks (ordered W bytes xs) 0 n)
+  pub members : SameMembers outside (readRecords W n bytes) (picks (ordered W bytes xs) 0 n)
   pub rising : Rising (picks (ordered W bytes xs) 0 n)
 
 -- the halves of the addresses

@@ -123,7 +123,7 @@ fn order_records(size: usize, n: usize, records: &[u8], order: &mut [u16])
 // ---- gathered
 
 // The run of addresses that is being built, and the index behind the records of the runs before it. A run that is one block so far has that
-// block's length, and is put without a walk.
+// block's length: where another run follows, it is put without a walk.
 struct Run {
     first: Wide,
     last: Wide,

@@ -22,7 +22,7 @@ pub enum ListReading {
     Refused(Refusal),
 }
 
-// How many bytes a record of the family has; the family is 4, or else 6.
+// How many bytes a record of the family has: 5 of family 4, and 17 of any other number, of which `read_list` takes 6 alone.
 pub fn family_size(family: u8) -> usize
     ensures { λ r. ⌜ r ≡ recordSize (familyWidth family) ⌝ }
 {
