@@ -24,7 +24,7 @@ use Rattle.record_lists.proofs.ListLaws.{size-back, list-small}
 use Rattle.record_lists.proofs.GoodLaws.{reads-length}
 use Rattle.gather.specs.declared.Span.{Span}
 use Rattle.gather.specs.declared.Run.{Run}
-use Rattle.gather.specs.Inner.{outside, recordAt, InList, Listed, Spans, picks, placeOf, ordered, InOrder, Built, Room, runBlocks, Turned, GoesOn, Starts}
+use Rattle.gather.specs.Inner.{outside, recordAt, InList, Listed, Spans, picks, placeOf, ordered, InOrder, Built, RunFits, runBlocks, Turned, GoesOn, Starts}
 use Rattle.gather.proofs.BlockLaws.{range-one}
 use Rattle.gather.proofs.PutLaws.{records-append, records-none}
 
@@ -168,7 +168,7 @@ module _ {size n : ℕ} {bytes xs : List ℕ} (L : Listed size n bytes) (O : InO
       ends : suc last < value (s .first) → rest ≡ rangeBlocks U first last ++ runsFrom U (g j .address) (after U (g j) - 1) (left (j + 1))
       ends l = more ∙ runs-next U first last (g j) (left (j + 1)) (omega (arith, p .first))
 
-      pub run-room : suc last < value (s .first) → Room size r out
+      pub run-room : suc last < value (s .first) → RunFits size r out
       run-room l =
           let tail = runsFrom U (g j .address) (after U (g j) - 1) (left (j + 1)) in
           omega (arith, P .room, ap (λ bs. length (recordsOf U bs)) (ends l), ap length (records-append U (rangeBlocks U first last) tail), length-append (recordsOf U (rangeBlocks U first last)) (recordsOf U tail))
@@ -230,7 +230,7 @@ module _ {size n : ℕ} {bytes xs : List ℕ} (L : Listed size n bytes) (O : InO
       only : rest ≡ rangeBlocks U (value (r .first)) (value (r .last))
       only = ap (runsFrom U (value (r .first)) (value (r .last))) (picks-done g j n h) ∙ runs-end U (value (r .first)) (value (r .last))
 
-      pub end-room : Room size r out
+      pub end-room : RunFits size r out
       end-room = omega (arith, P .room, ap (λ bs. length (recordsOf U bs)) only)
 
       pub pass-end : (new : List ℕ) (next : ℕ) → Puts out new (r .at) next (recordsOf U (runBlocks size r)) → Puts old new 0 next (recordsOf U (gatheredBlocks U ps))

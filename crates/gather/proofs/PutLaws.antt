@@ -19,7 +19,7 @@ use Rattle.records.proofs.RecordLaws.{record-length}
 use Rattle.record_lists.specs.Inner.{IsSize, sizeWidth}
 use Rattle.record_lists.proofs.ListLaws.{size-back}
 use Rattle.gather.specs.declared.Run.{Run}
-use Rattle.gather.specs.Inner.{numbers, Built, runBlocks, Room}
+use Rattle.gather.specs.Inner.{numbers, Built, runBlocks, RunFits}
 use Rattle.gather.proofs.BlockLaws.{low-value, size-most}
 
 -- ---- records, one list behind another
@@ -66,7 +66,7 @@ module _ {size : ℕ} {r : Run} (b : Built size r) (one : r .alone ≡ true) whe
   pub alone-length : length (recordsOf (sizeWidth size) (runBlocks size r)) ≡ size
   alone-length = ap length alone-records ∙ record-length (sizeWidth size) (numbers (r .first) (r .length)) ∙ size-back size (b .range .sized)
 
-  pub alone-room : (out : List ℕ) → Room size r out → r .at + size ≤ length out
+  pub alone-room : (out : List ℕ) → RunFits size r out → r .at + size ≤ length out
   alone-room out h = omega (arith, h, alone-length)
 
 -- ---- right behind the run or not: m is the largest number, at which sums stop

@@ -104,8 +104,8 @@ pub record Built (size : ℕ) (r : Run) : Type 0 where
   pub alone : r .alone ≡ true → runBlocks size r ≡ numbers (r .first) (r .length) ∷ []
 
 -- its records have room
-abbrev pub Room : ℕ → Run → List ℕ → Type 0
-Room size r out = r .at + length (recordsOf (sizeWidth size) (runBlocks size r)) ≤ length out
+abbrev pub RunFits : ℕ → Run → List ℕ → Type 0
+RunFits size r out = r .at + length (recordsOf (sizeWidth size) (runBlocks size r)) ≤ length out
 
 -- the run goes on to an address, and nothing is put
 pub record GoesOn (r : Run) (last : ℕ) (before : List ℕ) (s : Run) (now : List ℕ) : Type 0 where

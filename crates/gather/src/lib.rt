@@ -14,7 +14,7 @@ ghost use Rattle.records.specs.Records.{recordOf, blockRecord, recordsOf, readR
 ghost use Rattle.record_lists.specs.RecordLists.{isRising, mostRecords};
 ghost use Rattle.record_lists.specs.Inner.{IsSize, sizeWidth};
 ghost use Rattle.gather.specs.Gather.{gatherAnswer, gatherLeaves, uncoveredAnswer, uncoveredLeaves};
-ghost use Rattle.gather.specs.Inner.{numbers, recordAt, InList, Spans, HasPlace, placeOf, Bounds, Built, Room, Turned, Listed, InOrder, Loaded, OrderedBy, WritesBlocks, GapFits, PutsIf, PutsBefore, mostUncovered};
+ghost use Rattle.gather.specs.Inner.{numbers, recordAt, InList, Spans, HasPlace, placeOf, Bounds, Built, RunFits, Turned, Listed, InOrder, Loaded, OrderedBy, WritesBlocks, GapFits, PutsIf, PutsBefore, mostUncovered};
 use address::Address;
 use address::Block;
 use address::Reading;
@@ -162,7 +162,7 @@ fn block_of(size: usize, first: Wide, length: u8) -> Block
 
 // Puts the records of a run at its index, and answers the next.
 fn put_run(size: usize, run: Run, out: &mut [u8]) -> usize
-    requires { ⌜ Built size run × Room size run (now out) ⌝ }
+    requires { ⌜ Built size run × RunFits size run (now out) ⌝ }
     ensures { λ r. ⌜ Puts (now (out .entry)) (now (out .exit)) (run .at) r (recordsOf (sizeWidth size) (rangeBlocks (sizeWidth size) (value (run .first)) (value (run .last)))) ⌝ }
 {
     let first = run.first;
@@ -178,7 +178,7 @@ fn put_run(size: usize, run: Run, out: &mut [u8]) -> usize
 
 // The next block in the order: it lies in the run, goes on with it, or ends it and starts another.
 fn turn(size: usize, run: Run, block: Span, out: &mut [u8]) -> Run
-    requires { ⌜ Built size run × (value (block .last) < 2 ^ sizeWidth size) × (suc (value (run .last)) < value (block .first) → Room size run (now out)) ⌝ }
+    requires { ⌜ Built size run × (value (block .last) < 2 ^ sizeWidth size) × (suc (value (run .last)) < value (block .first) → RunFits size run (now out)) ⌝ }
     ensures { λ r. ⌜ Turned size run block (now (out .entry)) r (now (out .exit)) ⌝ }
 {
     let first = run.first;
