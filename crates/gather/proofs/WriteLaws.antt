@@ -8,20 +8,20 @@ use native.Mathlib.Omega.{arith}
 use lib.ListN.{length, take, drop, getD}
 use Rattle.cover.specs.Blocks.{Block, AllBlocks}
 use Rattle.address.specs.declared.Refusal.{Refusal}
-use Rattle.address.specs.Answers.{Answer, gives, refuses, answer, refusalNumber, writeRefusal, writeAnswer, writeLeaves}
-use Rattle.address.proofs.AnswerLaws.{number-pos, answer-gives, answer-refuses, stands, write-fits, write-other}
+use Rattle.address.specs.Answers.{Answer, gives, refuses, answer, writeRefusal, writeAnswer, writeLeaves}
+use Rattle.address.proofs.AnswerLaws.{answer-gives, answer-refuses, write-fits}
 use Rattle.output.specs.Placing.{Puts}
 use Rattle.output.proofs.PlacingLaws.{puts-room, puts-whole}
 use Rattle.records.specs.declared.BlocksWriting.{BlocksWriting}
 use Rattle.records.specs.declared.BlocksWriting.the-variants.{Wrote, Refused}
 use Rattle.records.specs.Records.{recordSize, readRecords, recordsOf, blocksWritingAnswer}
 use Rattle.records.proofs.RecordLaws.{records-length}
-use Rattle.record_lists.specs.RecordLists.{familyWidth, listBlocks, isRising, listRefusal, listAnswer}
+use Rattle.record_lists.specs.RecordLists.{familyWidth, listBlocks, isRising, listAnswer}
 use Rattle.record_lists.specs.Inner.{IsSize, sizeWidth}
 use Rattle.record_lists.proofs.ListLaws.{size-back}
 use Rattle.record_lists.proofs.AnswerLaws.{family-size, family-width}
 use Rattle.record_lists.proofs.GoodLaws.{all-below, good-refusal, good-count, good-rises, good-length, good-few, good-blocks}
-use Rattle.gather.specs.Gather.{blocksAnswer, blocksLeave}
+use Rattle.list_answers.specs.ListAnswers.{blocksAnswer, blocksLeave}
 use Rattle.gather.specs.Inner.{Listed, WritesBlocks}
 use Rattle.gather.proofs.BlockLaws.{size-some}
 
@@ -70,15 +70,7 @@ module _ {size : ℕ} (s : IsSize size) (bs : List Block) where
 -- ---- the call
 
 module _ (f : ℕ) (bytes : List ℕ) (old : List ℕ) where
-  -- a list that is refused
-  pub list-refused : (bs : List Block) (e : Refusal) → listRefusal f bytes ≡ refusalNumber e → (refuses (0, 0) e ≡ blocksAnswer f bytes bs old) × (old ≡ blocksLeave f bytes bs old)
-  unfolding blocksAnswer blocksLeave writeLeaves
-  list-refused bs e h =
-      let records = recordsOf (familyWidth f) bs in
-      let r : writeRefusal (listRefusal f bytes) records old ≡ refusalNumber e = stands records old (listRefusal f bytes) (omega (arith, number-pos e, h)) ∙ h in
-      (answer-refuses (0, 0) (length bs, length records) (writeRefusal (listRefusal f bytes) records old) e (sym r), write-other (listRefusal f bytes) records old e (sym h) .1)
-
-  -- one that is not, as the code has it
+  -- a list that is not refused, as the code has it
   module _ (n : ℕ) (rises : Bool) (h : listAnswer f bytes ≡ gives (n, rises)) (size : ℕ) (s : size ≡ recordSize (familyWidth f)) where
     width-is : sizeWidth size ≡ familyWidth f
     width-is = ap sizeWidth s ∙ family-width f

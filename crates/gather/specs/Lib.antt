@@ -1,3 +1,2 @@
--- Gather: what the two calls answer and leave. Inner: definitions for private functions.
-pub mod Gather
+-- Inner: definitions for private functions. What the two calls answer and leave stands in `list_answers`.
 pub mod Inner

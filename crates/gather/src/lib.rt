@@ -13,7 +13,7 @@ ghost use Rattle.output.specs.Placing.{Puts, PutsAll};
 ghost use Rattle.records.specs.Records.{recordOf, blockRecord, recordsOf, readRecords, blocksWritingAnswer};
 ghost use Rattle.record_lists.specs.RecordLists.{isRising, mostRecords};
 ghost use Rattle.record_lists.specs.Inner.{IsSize, sizeWidth};
-ghost use Rattle.gather.specs.Gather.{gatherAnswer, gatherLeaves, uncoveredAnswer, uncoveredLeaves};
+ghost use Rattle.list_answers.specs.ListAnswers.{gatherAnswer, gatherLeaves, uncoveredAnswer, uncoveredLeaves};
 ghost use Rattle.gather.specs.Inner.{numbers, recordAt, InList, Spans, HasPlace, placeOf, Bounds, Built, RunFits, Turned, Listed, InOrder, Loaded, OrderedBy, WritesBlocks, GapFits, PutsIf, PutsBefore, mostUncovered};
 use address::Address;
 use address::Block;

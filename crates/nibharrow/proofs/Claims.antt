@@ -34,8 +34,8 @@ use Rattle.blocks.proofs.Claims as blocks
 use Rattle.records.specs.Records.{recordSize, recordsOf}
 use Rattle.ranges.specs.Ranges.{rangeRecords, rangeAnswer, rangeLeaves, HoldsFewest}
 use Rattle.record_lists.specs.RecordLists.{familyWidth, mostRecords, listBlocks, listRefusal}
-use Rattle.gather.specs.Gather.{gatheredList, uncoveredList, blocksAnswer, blocksLeave, HoldsFewestOf}
-use Rattle.gather.proofs.Claims as gather
+use Rattle.list_answers.specs.ListAnswers.{gatheredList, uncoveredList, blocksAnswer, blocksLeave, HoldsFewestOf}
+use Rattle.list_answers.proofs.Claims as gather
 use Rattle.words.specs.Words.{wordsText, wordsRefusal}
 use Rattle.words.proofs.Claims as words
 use Rattle.c_answers.specs.CAnswers.{besides}

@@ -28,8 +28,8 @@ use Rattle.cover.specs.Blocks as cover
 use Rattle.record_lists.specs.RecordLists.{isFamily}
 use Rattle.record_lists.proofs.AnswerLaws.{list-unknown}
 use Rattle.record_lists.proofs.GoodLaws.{refused-number}
-use Rattle.gather.specs.Gather.{blocksAnswer, blocksLeave}
-use Rattle.gather.proofs.WriteLaws.{list-refused}
+use Rattle.list_answers.specs.ListAnswers.{blocksAnswer, blocksLeave}
+use Rattle.list_answers.proofs.AnswerLaws.{list-refused}
 use Rattle.nibharrow.specs.Interface.{Outcome, outcome, whenGiven, refusedBy, andThen, addressInto, rangeTo, writes, networkWrites, blockWrites}
 
 -- equal answers and equal buffers

@@ -16,7 +16,7 @@ use Rattle.network.specs.Network.{networkAnswer, networkLeaves}
 use Rattle.classes.specs.Classes.{splitAnswer}
 use Rattle.blocks.specs.BlockText.{blockTextAnswer, blockText}
 use Rattle.ranges.specs.Ranges.{rangeAnswer, rangeLeaves}
-use Rattle.gather.specs.Gather.{gatherAnswer, gatherLeaves, uncoveredAnswer, uncoveredLeaves}
+use Rattle.list_answers.specs.ListAnswers.{gatherAnswer, gatherLeaves, uncoveredAnswer, uncoveredLeaves}
 use Rattle.words.specs.Words.{wordsText, wordsRefusal}
 use Rattle.c_answers.specs.CAnswers.{besides}
 

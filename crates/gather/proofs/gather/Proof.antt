@@ -6,7 +6,8 @@ use Rattle.address.specs.Answers.{gives}
 use Rattle.lists.specs.Lists.{gatheredBlocks}
 use Rattle.record_lists.specs.RecordLists.{listAnswer, listReadingAnswer}
 use Rattle.record_lists.proofs.GoodLaws.{refused-number}
-use Rattle.gather.proofs.WriteLaws.{list-refused, list-listed, list-rises, list-written}
+use Rattle.list_answers.proofs.AnswerLaws.{list-refused}
+use Rattle.gather.proofs.WriteLaws.{list-listed, list-rises, list-written}
 use Rattle.gather.proofs.gather.Statement.{statement}
 use Rattle.gather.proofs.gather.Tie as tie
 

@@ -1,7 +1,7 @@
 -- `nibharrow::nibharrow_gather` meets its contract. Assumes nothing.
 use mathlib.Core.Path.{_∙_}
 use borrow.Author.Needs.{needs}
-use Rattle.gather.specs.Gather.{gatheredList}
+use Rattle.list_answers.specs.ListAnswers.{gatheredList}
 use Rattle.nibharrow.specs.Interface.{gatherInto}
 use Rattle.nibharrow.proofs.InterfaceLaws.{both, records-cut}
 use Rattle.nibharrow.proofs.nibharrow_gather.Statement.{statement}

@@ -1,7 +1,7 @@
 -- `nibharrow::nibharrow_uncovered` meets its contract. Assumes nothing.
 use mathlib.Core.Path.{_∙_}
 use borrow.Author.Needs.{needs}
-use Rattle.gather.specs.Gather.{uncoveredList}
+use Rattle.list_answers.specs.ListAnswers.{uncoveredList}
 use Rattle.nibharrow.specs.Interface.{uncoveredInto}
 use Rattle.nibharrow.proofs.InterfaceLaws.{both, records-cut}
 use Rattle.nibharrow.proofs.nibharrow_uncovered.Statement.{statement}

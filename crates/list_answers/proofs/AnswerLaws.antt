@@ -13,9 +13,10 @@ use lib.Seq.{take-at}
 use Rattle.notation.specs.BigEndian.{AllBelow}
 use Rattle.notation.proofs.DigitLaws.{digits-zero}
 use Rattle.cover.specs.Blocks.{Block, AllBlocks, Rising, Exactly, Fewest}
+use Rattle.address.specs.declared.Refusal.{Refusal}
 use Rattle.address.specs.declared.Refusal.the-variants.{TooMany}
-use Rattle.address.specs.Answers.{Answer, gives, refuses, writeRefusal}
-use Rattle.address.proofs.AnswerLaws.{no-refusal, refusal-3, stands}
+use Rattle.address.specs.Answers.{Answer, gives, refuses, refusalNumber, writeRefusal, writeLeaves}
+use Rattle.address.proofs.AnswerLaws.{number-pos, answer-refuses, write-other, no-refusal, refusal-3, stands}
 use Rattle.records.specs.Records.{recordSize, recordOf, readRecords, recordsOf}
 use Rattle.records.proofs.RecordLaws.{record-length}
 use Rattle.records.proofs.Claims.{records-read-back, records-size}
@@ -24,8 +25,7 @@ use Rattle.record_lists.proofs.AnswerLaws.{family-octets, family-size}
 use Rattle.record_lists.proofs.GoodLaws.{fine}
 use Rattle.record_lists.proofs.ListFormLaws.{count-is}
 use Rattle.record_lists.proofs.Claims.{six-numbers, number-0, number-10, written-read, written-fine}
-use Rattle.gather.specs.Gather.{blocksAnswer, blocksLeave, HoldsFewestOf}
-use Rattle.gather.proofs.WriteLaws.{list-refused}
+use Rattle.list_answers.specs.ListAnswers.{blocksAnswer, blocksLeave, HoldsFewestOf}
 
 -- ---- the list
 
@@ -64,6 +64,15 @@ module _ (f : ℕ) (bs : List Block) (valid : AllBlocks (familyWidth f) bs) (kno
   seen-many many =
       let (whole, count) = count-is f seen (length bs) (ap length is ∙ records-size (familyWidth f) bs) in
       number-10 f seen .1 (known, whole, omega (arith, count, many))
+
+-- a list that is refused
+pub list-refused : (f : ℕ) (bytes old : List ℕ) (bs : List Block) (e : Refusal) → listRefusal f bytes ≡ refusalNumber e
+    → (refuses (0, 0) e ≡ blocksAnswer f bytes bs old) × (old ≡ blocksLeave f bytes bs old)
+unfolding blocksAnswer blocksLeave writeLeaves
+list-refused f bytes old bs e h =
+    let records = recordsOf (familyWidth f) bs in
+    let r : writeRefusal (listRefusal f bytes) records old ≡ refusalNumber e = stands records old (listRefusal f bytes) (omega (arith, number-pos e, h)) ∙ h in
+    (answer-refuses (0, 0) (length bs, length records) (writeRefusal (listRefusal f bytes) records old) e (sym r), write-other (listRefusal f bytes) records old e (sym h) .1)
 
 -- a call that is refused by 10
 pub refused-by-10 : (f : ℕ) (bytes : List ℕ) (bs : List Block) (buf : List ℕ) → listRefusal f bytes ≡ 10 → (blocksAnswer f bytes bs buf ≡ refuses (0, 0) TooMany) × (blocksLeave f bytes bs buf ≡ buf)

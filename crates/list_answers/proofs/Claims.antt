@@ -19,8 +19,8 @@ use Rattle.records.proofs.Claims.{records-size}
 use Rattle.record_lists.specs.RecordLists.{isFamily, familyWidth, mostRecords, listBlocks, listRefusal}
 use Rattle.record_lists.proofs.GoodLaws as list
 use Rattle.record_lists.proofs.Claims.{family-exactly, two-families}
-use Rattle.gather.specs.Gather.{gatheredList, uncoveredList, blocksAnswer, blocksLeave, gatherAnswer, gatherLeaves, uncoveredAnswer, uncoveredLeaves, HoldsFewestOf}
-use Rattle.gather.proofs.ClaimLaws as laws
+use Rattle.list_answers.specs.ListAnswers.{gatheredList, uncoveredList, blocksAnswer, blocksLeave, gatherAnswer, gatherLeaves, uncoveredAnswer, uncoveredLeaves, HoldsFewestOf}
+use Rattle.list_answers.proofs.AnswerLaws as laws
 
 -- ---- a list of records, and what it is gathered to
 
