@@ -15,7 +15,7 @@ const GOOD_ANSWER: &str = "10.0.0.1/32\n10.0.0.2/31\n10.0.0.4/31\n10.0.0.6/32\n:
 
 /// The words that the library has for the refusals of a line.
 const WORDS: [(&str, &str); 4] = [
-    ("1", "the text is longer than 64 bytes"),
+    ("1", "the text is longer than the call takes"),
     ("2", "the text or the bytes are not of the form asked for"),
     ("8", "the first address is above the last"),
     (

@@ -10,7 +10,7 @@ use Rattle.address.specs.Answers.{missing, precedence, refusal}
 -- the numbers of 01's table and of 02's requests, each with its words
 abbrev pub table : List (ℕ × List ℕ)
 table =
-    (1, ascii "the text is longer than 64 bytes")
+    (1, ascii "the text is longer than the call takes")
     ∷ (2, ascii "the text or the bytes are not of the form asked for")
     ∷ (3, ascii "the buffer is shorter than the answer")
     ∷ (4, ascii "the length or size is above the bits of an address")

@@ -11,7 +11,7 @@ pub fn write_words(number: u32, out: &mut [u8]) -> Writing
     ensures { λ r. ⌜ (writingAnswer r ≡ writeAnswer (wordsRefusal number) (wordsText number) (now (out .entry))) × (now (out .exit) ≡ writeLeaves (wordsRefusal number) (wordsText number) (now (out .entry))) ⌝ }
 {
     match number {
-        1 => store(b"the text is longer than 64 bytes", out),
+        1 => store(b"the text is longer than the call takes", out),
         2 => store(b"the text or the bytes are not of the form asked for", out),
         3 => store(b"the buffer is shorter than the answer", out),
         4 => store(b"the length or size is above the bits of an address", out),
