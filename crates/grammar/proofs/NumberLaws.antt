@@ -19,7 +19,7 @@ use Rattle.grammar.proofs.DigitStringLaws.{digit-value, byte, bounds, a
 
 -- ---- sizes
 
-first-not-0 : (c : ℕ) (t : List ℕ) → 49 ≤ c → leadingZero (c ∷ t) ≡ false
+pub first-not-0 : (c : ℕ) (t : List ℕ) → 49 ≤ c → leadingZero (c ∷ t) ≡ false
 unfolding leadingZero
 first-not-0 c [] h = refl
 first-not-0 c (d ∷ t) h = ne-eqb c 48 (omega arith)
@@ -34,7 +34,7 @@ size-reads m only-0 k = zero-reads
     zero-reads = rw (digits-read same-10 (one (byte 48 (omega arith) (omega arith))), le-leb 0 m k)
 
 -- the first of some digits
-first-byte : (c : ℕ) (t : List ℕ) (n : ℕ) → digit-string 10 DIGIT (c ∷ t) n → 48 ≤ c
+pub first-byte : (c : ℕ) (t : List ℕ) (n : ℕ) → digit-string 10 DIGIT (c ∷ t) n → 48 ≤ c
 first-byte c t n g = bounds (is-digit c (all-cons 10 c t (digits-all same-10 g .all) .0)) .0
 
 -- digits that do not begin with 0, or 0 itself
@@ -148,7 +148,7 @@ reads-h16 t x e = go (ltb 4 (length t)) refl e
 
 -- ---- one spelling
 
-decimal-lower : (t : List ℕ) → allDigits 10 t ≡ true → map lower t ≡ t
+pub decimal-lower : (t : List ℕ) → allDigits 10 t ≡ true → map lower t ≡ t
 unfolding lower
 decimal-lower [] e = refl
 decimal-lower (c ∷ t) e =

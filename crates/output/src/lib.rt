@@ -19,7 +19,7 @@ pub fn put(text: &mut [u8], at: usize, byte: u8) -> usize
 }
 
 // The same, if it is wanted.
-fn put_if(text: &mut [u8], at: usize, wanted: bool, byte: u8) -> usize
+pub fn put_if(text: &mut [u8], at: usize, wanted: bool, byte: u8) -> usize
     ensures { λ r. ⌜ Puts (now (text .entry)) (now (text .exit)) at r (cond wanted (byte ∷ []) []) ⌝ }
 {
     if wanted {

@@ -1,0 +1,1 @@
+// What respelling a sheet answers and leaves, in specs/ and proofs/. It has no code: that is in `sheet`.

@@ -1,0 +1,7 @@
+-- NumberFormLaws: the numbers of a line. LineFormLaws: a line. SheetFormLaws: a sheet, its lines and what is written of it.
+-- SheetCallLaws: the call. Claims: what is claimed of all.
+pub mod NumberFormLaws
+pub mod LineFormLaws
+pub mod SheetFormLaws
+pub mod SheetCallLaws
+pub mod Claims
