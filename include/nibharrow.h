@@ -1,5 +1,5 @@
 /*
- * Nibharrow: IP addresses read, written, split and turned into blocks, and lists of blocks gathered.
+ * Nibharrow: IP addresses read, written, split and turned into blocks, lists of blocks gathered, and sheets respelled.
  *
  * Every function is proved to give, for each input, the one answer that its rules fix, to read and write no byte
  * outside the buffers it is lent, and to return. It keeps no state, allocates nothing and may be called from several
@@ -20,11 +20,17 @@
  * A record is a block as bytes: the 4 or 16 bytes of its address, then one byte with its prefix length. A list is
  * records of one family, end to end. A call on records is told their family, 4 or 6, and takes up to 512 of them.
  *
+ * A sheet is up to 1,024 lines in up to 65,536 bytes. A line is the strict text of an address, a comma, a volume number
+ * from 1 to 999,999, a comma, a pH in hundredths from 0 to 1400, and a newline, which the last line has too. The numbers
+ * are in decimal digits with no leading zero, except "0" itself. Nothing else may be in a line: no blank, no carriage
+ * return, and no line is empty.
+ *
  * Answers. Each begins with `refusal`: 0 for a good answer, or one of the numbers below. Where it is not 0 every other
  * field is 0, and no byte of a lent buffer has changed. A good answer changes only the bytes it counts, at the start of
  * the buffer. Where several refusals hold, the first of 9, 1, 2, 4, 5, 6, 7, 8, 3 is given; bytes that are no address
  * have no family, so of bytes 9 is given only where they are addresses. A call on records gives the first of 9, 2 and 10, then the number
- * of the first bad record, 4 before 5, then 3. Answers may have padding: compare them field by field.
+ * of the first bad record, 4 before 5, then 3. A call on a sheet gives the first of 1, 10, 2 and 3. Answers may have
+ * padding: compare them field by field.
  */
 #ifndef NIBHARROW_H
 #define NIBHARROW_H
@@ -37,8 +43,8 @@ extern "C" {
 #endif
 
 enum nibharrow_refusal {
-    NIBHARROW_TEXT_TOO_LONG = 1,      /* the text is longer than 64 bytes */
-    NIBHARROW_MALFORMED = 2,          /* the text is not of the form asked for; the bytes are no address, or no records */
+    NIBHARROW_TEXT_TOO_LONG = 1,      /* the text is longer than 64 bytes, or the sheet longer than 65,536 */
+    NIBHARROW_MALFORMED = 2,          /* the text, or a line of a sheet, is of another form; the bytes are no address, or no records */
     NIBHARROW_NO_ROOM = 3,            /* the buffer is shorter than the answer */
     NIBHARROW_LENGTH_TOO_LARGE = 4,   /* a length or size is above 32 for IPv4, or above 128 for IPv6 */
     NIBHARROW_BITS_BEYOND_LENGTH = 5, /* a block's address has a one bit beyond its length */
@@ -46,11 +52,15 @@ enum nibharrow_refusal {
     NIBHARROW_HOST_TOO_LARGE = 7,     /* the host number is too large for the class of its network number */
     NIBHARROW_FIRST_ABOVE_LAST = 8,   /* the first address of a range is above the last */
     NIBHARROW_WRONG_FAMILY = 9,       /* not 4, 6 or 0, or 0 of records; a range's ends differ; IPv6 where IPv4 is meant */
-    NIBHARROW_TOO_MANY = 10           /* more than 512 records */
+    NIBHARROW_TOO_MANY = 10           /* more than 512 records, or more than 1,024 lines */
 };
 
 /* The most records that a call takes. */
 #define NIBHARROW_MOST_RECORDS 512
+
+/* The most lines and the most bytes of a sheet that a call takes. */
+#define NIBHARROW_MOST_LINES 1024
+#define NIBHARROW_LONGEST_SHEET 65536
 
 /* Room that always suffices, in bytes. */
 #define NIBHARROW_ADDRESS_ROOM 16           /* the bytes of an address */
@@ -64,6 +74,7 @@ enum nibharrow_refusal {
 #define NIBHARROW_GATHER_ROOM_6 8704        /* the records of a gathered list of IPv6: 512 of 17 bytes */
 #define NIBHARROW_UNCOVERED_ROOM_4 79365    /* what a list of IPv4 does not cover: at most 15,873 records of 5 bytes */
 #define NIBHARROW_UNCOVERED_ROOM_6 1105425  /* what a list of IPv6 does not cover: at most 65,025 records of 17 bytes */
+#define NIBHARROW_SHEET_ROOM 53248          /* a sheet that is written: 1,024 lines of at most 52 bytes */
 #define NIBHARROW_REFUSAL_TEXT_ROOM 54      /* the words of a refusal */
 
 /* `bytes` is how many bytes the call has written to the start of `out`; for an address 4 (IPv4) or 16 (IPv6). */
@@ -183,6 +194,16 @@ nibharrow_blocks_written nibharrow_gather(const uint8_t *records, size_t records
  * Refusals: 9 where `family` is not 4 or 6, 2 where the bytes are no whole number of records, 10, 4 or 5, 3.
  */
 nibharrow_blocks_written nibharrow_uncovered(const uint8_t *records, size_t records_length, uint32_t family, uint8_t *out, size_t out_length);
+
+/*
+ * Respells a sheet: writes its lines to `out`, each with the normal text of its address and with its own volume and pH.
+ * Where `sorted` is 0 the lines stay in their order. Where it is any other number, whole lines are sorted by address,
+ * IPv4 before IPv6, and lines with equal addresses stay in their order. No line that is written is longer than 52 bytes.
+ * An empty sheet stays empty.
+ * Refusals: 1 for more than 65,536 bytes; 10 for more than 1,024 lines, a last one without its newline counted too; 2
+ * where a line is malformed, such as that last one, or one whose address has more than 64 bytes; 3.
+ */
+nibharrow_written nibharrow_respell(const uint8_t *sheet, size_t sheet_length, uint32_t sorted, uint8_t *out, size_t out_length);
 
 /*
  * Writes a refusal in words to `out`.

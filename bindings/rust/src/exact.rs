@@ -48,5 +48,6 @@ calls! {
     range_blocks = nibharrow_range_blocks(first last; ; out) -> BlocksWritten;
     gather = nibharrow_gather(records; family; out) -> BlocksWritten;
     uncovered = nibharrow_uncovered(records; family; out) -> BlocksWritten;
+    respell = nibharrow_respell(sheet; sorted; out) -> Written;
     refusal_text = nibharrow_refusal_text(; number; out) -> Written;
 }

@@ -15,6 +15,7 @@
 //! | a range into the fewest blocks | [`range_blocks`], [`range_records`] |
 //! | a list into the fewest blocks | [`gather`], [`gather_records`] |
 //! | what a list does not cover | [`uncovered`], [`uncovered_records`] |
+//! | a sheet, respelled and sorted | [`respell`], [`respell_into`] |
 //!
 //! ```
 //! use nibharrow::{range_blocks, read_address, write_address, Refusal};
@@ -31,8 +32,8 @@
 //!
 //! # Text, buffers and refusals
 //!
-//! Text is any bytes, a `&str` or a `&[u8]`, of at most 64. A zero byte in it or a blank around it
-//! is a wrong byte.
+//! Text is any bytes, a `&str` or a `&[u8]`, of at most 64, and a sheet of at most 65,536. A zero
+//! byte in it or a blank around it is a wrong byte.
 //!
 //! A call that is lent a buffer, such as one whose name ends in `_into` or `_records`, writes to it and
 //! allocates nothing. A good answer changes only the bytes it counts, at the start of the buffer; a refused
@@ -42,8 +43,9 @@
 //! Where several refusals hold, the first of `WrongFamily`, `TextTooLong`, `Malformed`,
 //! `LengthTooLarge`, `BitsBeyondLength`, `NoClass`, `HostTooLarge`, `FirstAboveLast`, `NoRoom` is
 //! given. Of a list it is the first of `WrongFamily`, `Malformed` and `TooMany`, then that of the
-//! first bad record, `LengthTooLarge` before `BitsBeyondLength`, then `NoRoom`. No call panics,
-//! whatever it is handed. None keeps state, so all may be made from several threads at once.
+//! first bad record, `LengthTooLarge` before `BitsBeyondLength`, then `NoRoom`. Of a sheet it is the
+//! first of `TextTooLong`, `TooMany`, `Malformed` and `NoRoom`. No call panics, whatever it is handed.
+//! None keeps state, so all may be made from several threads at once.
 //!
 //! # What is proved, and what is not
 //!
@@ -79,6 +81,7 @@ pub mod raw;
 mod records;
 mod refusal;
 pub mod room;
+mod sheet;
 
 pub use address::{
     read_address, read_address_of, read_ipv4, read_ipv6, write_address, write_address_into, Family,
@@ -91,3 +94,4 @@ pub use network::{read_network, write_network, write_network_into, Network};
 pub use range::{range_blocks, range_records};
 pub use records::{Records, MOST_RECORDS};
 pub use refusal::Refusal;
+pub use sheet::{respell, respell_into, LONGEST_SHEET, MOST_LINES};

@@ -122,5 +122,12 @@ extern "C" {
         out: *mut u8,
         out_length: usize,
     ) -> BlocksWritten;
+    pub fn nibharrow_respell(
+        sheet: *const u8,
+        sheet_length: usize,
+        sorted: u32,
+        out: *mut u8,
+        out_length: usize,
+    ) -> Written;
     pub fn nibharrow_refusal_text(number: u32, out: *mut u8, out_length: usize) -> Written;
 }

@@ -19,10 +19,11 @@ use crate::{exact, room};
 #[non_exhaustive]
 #[derive(Clone, Copy, Debug, PartialEq, Eq, Hash)]
 pub enum Refusal {
-    /// The text is longer than 64 bytes.
+    /// The text is longer than 64 bytes, or the sheet longer than 65,536,
+    /// [`LONGEST_SHEET`](crate::LONGEST_SHEET).
     TextTooLong = 1,
-    /// The text is not of the form asked for, or the bytes are no whole number of records. The empty
-    /// text is of no form.
+    /// The text, or a line of a sheet, is not of the form asked for, or the bytes are no whole number
+    /// of records. The empty text is of no form, but for the empty sheet.
     Malformed = 2,
     /// The buffer is shorter than the answer.
     NoRoom = 3,
@@ -41,7 +42,8 @@ pub enum Refusal {
     /// family number that is not 4, 6 or 0 and an IPv6 address where only IPv4 is meant, cannot be
     /// handed to the calls of this crate.
     WrongFamily = 9,
-    /// A list has more than 512 blocks, [`MOST_RECORDS`](crate::MOST_RECORDS).
+    /// A list has more than 512 blocks, [`MOST_RECORDS`](crate::MOST_RECORDS), or a sheet more than
+    /// 1,024 lines, [`MOST_LINES`](crate::MOST_LINES).
     TooMany = 10,
 }
 

@@ -1,6 +1,6 @@
 //! Room that always suffices, in bytes: the constants of the header without their prefix.
 
-use crate::MOST_RECORDS;
+use crate::{MOST_LINES, MOST_RECORDS};
 
 /// The bytes of an address.
 pub const ADDRESS: usize = 16;
@@ -26,6 +26,8 @@ pub const GATHER_6: usize = 8704;
 pub const UNCOVERED_4: usize = uncovered(4, MOST_RECORDS);
 /// What a list of IPv6 does not cover: at most 65,025 records of 17 bytes.
 pub const UNCOVERED_6: usize = uncovered(16, MOST_RECORDS);
+/// A sheet that is written: 1,024 lines of at most 52 bytes.
+pub const SHEET: usize = sheet(MOST_LINES);
 /// The text of a refusal.
 pub const REFUSAL_TEXT: usize = 54;
 
@@ -33,4 +35,10 @@ pub const REFUSAL_TEXT: usize = 54;
 /// of the list takes one apart, into as many as an address has bits at most.
 pub(crate) const fn uncovered(address: usize, blocks: usize) -> usize {
     (1 + blocks * (8 * address - 1)) * (address + 1)
+}
+
+/// So many lines of a sheet: an address of 39 bytes, a volume of 6, a pH of 4, two commas and the
+/// newline at most.
+pub(crate) const fn sheet(lines: usize) -> usize {
+    lines * (TEXT + 6 + 4 + 3)
 }

@@ -4,10 +4,10 @@
 use std::io::ErrorKind;
 use std::mem::{align_of, offset_of, size_of};
 use std::path::{Path, PathBuf};
-use std::process::{Command, Output};
+use std::process::{Command, Output, Stdio};
 use std::{env, fs};
 
-use nibharrow::{raw, room, Refusal, MOST_RECORDS};
+use nibharrow::{raw, room, Refusal, LONGEST_SHEET, MOST_LINES, MOST_RECORDS};
 
 /// Every warning is an error.
 const STRICT: [&str; 4] = ["-Wall", "-Wextra", "-pedantic", "-Werror"];
@@ -35,8 +35,8 @@ fn run(command: &mut Command) -> String {
     stdout(output.unwrap_or_else(|error| panic!("{command:?}: {error}")))
 }
 
-/// Builds a C program and answers what it prints.
-fn run_c(source: &str, standard: &str) -> String {
+/// Builds a C program and answers what it prints, given this input.
+fn run_c_on(input: Stdio, source: &str, standard: &str) -> String {
     let program = Path::new(env!("CARGO_TARGET_TMPDIR")).join(file(source).file_stem().unwrap());
     let compiler = env::var_os("CC").unwrap_or("cc".into());
     run(Command::new(compiler)
@@ -49,7 +49,11 @@ fn run_c(source: &str, standard: &str) -> String {
         .arg(env!("NIBHARROW_LIBRARY"))
         .arg("-o")
         .arg(&program));
-    run(&mut Command::new(program))
+    run(Command::new(program).stdin(input))
+}
+
+fn run_c(source: &str, standard: &str) -> String {
+    run_c_on(Stdio::null(), source, standard)
 }
 
 fn field_size<T, F>(_: fn(&T) -> &F) -> usize {
@@ -84,6 +88,8 @@ fn layouts() -> String {
 fn values() -> String {
     let values = [
         ("MOST_RECORDS", MOST_RECORDS),
+        ("MOST_LINES", MOST_LINES),
+        ("LONGEST_SHEET", LONGEST_SHEET),
         ("ADDRESS_ROOM", room::ADDRESS),
         ("TEXT_ROOM", room::TEXT),
         ("NETWORK_ROOM", room::NETWORK),
@@ -95,6 +101,7 @@ fn values() -> String {
         ("GATHER_ROOM_6", room::GATHER_6),
         ("UNCOVERED_ROOM_4", room::UNCOVERED_4),
         ("UNCOVERED_ROOM_6", room::UNCOVERED_6),
+        ("SHEET_ROOM", room::SHEET),
         ("REFUSAL_TEXT_ROOM", room::REFUSAL_TEXT),
         ("TEXT_TOO_LONG", Refusal::TextTooLong as usize),
         ("MALFORMED", Refusal::Malformed as usize),
@@ -189,7 +196,7 @@ fn functions_of_raw() -> Vec<String> {
 #[test]
 fn functions_are_those_of_the_header() {
     let functions = functions_of_header();
-    assert_eq!(functions.len(), 13);
+    assert_eq!(functions.len(), 14);
     assert_eq!(functions, functions_of_raw());
 }
 
@@ -222,6 +229,9 @@ fn the_examples_print_what_is_stored() {
         let printed = run_c(&format!("examples/{example}.c"), "-std=c99");
         assert_eq!(printed, read(&format!("examples/{example}.out")));
     }
+    let sheet = fs::File::open(file("examples/sheet.csv")).unwrap();
+    let printed = run_c_on(sheet.into(), "examples/sheet.c", "-std=c99");
+    assert_eq!(printed, read("examples/sheet.out"));
 }
 
 /// Asks nothing where there is no C++ compiler: the library does not need one.

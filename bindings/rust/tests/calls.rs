@@ -549,3 +549,216 @@ fn refusals_of_records() {
         assert_eq!(call(Family::Either, &[], &mut []), Err(WrongFamily));
     }
 }
+
+/// Sheets, what they are respelled, and what they are respelled and sorted.
+const SHEETS: [[&str; 3]; 7] = [
+    ["", "", ""],
+    [
+        "10.0.0.12,7,650\n",
+        "10.0.0.12,7,650\n",
+        "10.0.0.12,7,650\n",
+    ],
+    // The lines go with their addresses: no column is sorted alone.
+    [
+        "10.0.0.3,1,700\n10.0.0.1,3,500\n10.0.0.2,2,600\n",
+        "10.0.0.3,1,700\n10.0.0.1,3,500\n10.0.0.2,2,600\n",
+        "10.0.0.1,3,500\n10.0.0.2,2,600\n10.0.0.3,1,700\n",
+    ],
+    // By number and not by text.
+    [
+        "10.0.0.10,1,0\n9.0.0.0,1,0\n10.0.0.9,1,0\n",
+        "10.0.0.10,1,0\n9.0.0.0,1,0\n10.0.0.9,1,0\n",
+        "9.0.0.0,1,0\n10.0.0.9,1,0\n10.0.0.10,1,0\n",
+    ],
+    // IPv4 before IPv6, whatever the numbers are.
+    [
+        "::,1,0\n255.255.255.255,1,0\n::1,1,0\n0.0.0.1,1,0\n",
+        "::,1,0\n255.255.255.255,1,0\n::1,1,0\n0.0.0.1,1,0\n",
+        "0.0.0.1,1,0\n255.255.255.255,1,0\n::,1,0\n::1,1,0\n",
+    ],
+    // Equal addresses stay in their order, however they are spelt and whatever they carry.
+    [
+        "::2,5,5\n2001:DB8:0:0:1:0:0:1,9,3\n::0:2,5,4\n2001:db8::1:0:0:1,2,8\n::0.0.0.2,4,9\n",
+        "::2,5,5\n2001:db8::1:0:0:1,9,3\n::2,5,4\n2001:db8::1:0:0:1,2,8\n::2,4,9\n",
+        "::2,5,5\n::2,5,4\n::2,4,9\n2001:db8::1:0:0:1,9,3\n2001:db8::1:0:0:1,2,8\n",
+    ],
+    [
+        "::FFFF:204.152.189.116,999999,1400\n1:2:3:4:5:6:7::,1,0\n",
+        "::ffff:cc98:bd74,999999,1400\n1:2:3:4:5:6:7:0,1,0\n",
+        "::ffff:cc98:bd74,999999,1400\n1:2:3:4:5:6:7:0,1,0\n",
+    ],
+];
+
+#[test]
+fn sheets() {
+    for [sheet, respelled, sorted] in SHEETS {
+        assert_eq!(respell(sheet, false), Ok(respelled.into()));
+        assert_eq!(respell(sheet.as_bytes(), true), Ok(sorted.into()));
+        assert_eq!(respell(respelled, true), Ok(sorted.into()));
+        for done in [respelled, sorted] {
+            assert_eq!(respell(done, false), Ok(done.into()));
+        }
+        assert_eq!(respell(sorted, true), Ok(sorted.into()));
+    }
+}
+
+#[test]
+fn sheets_in_lent_buffers() {
+    for [sheet, respelled, sorted] in SHEETS {
+        for (sorts, expected) in [(false, respelled), (true, sorted)] {
+            let (expected, length) = (expected.as_bytes(), expected.len());
+            let mut out = vec![b'?'; length + 4];
+            assert_eq!(respell_into(sheet, sorts, &mut out), Ok(expected));
+            assert_eq!(out[length..], [b'?'; 4]);
+
+            let mut out = vec![b'?'; length];
+            assert_eq!(respell_into(sheet, sorts, &mut out), Ok(expected));
+            for less in 0..length {
+                let mut out = vec![b'?'; less];
+                assert_eq!(respell_into(sheet, sorts, &mut out), Err(NoRoom));
+                assert!(out.iter().all(|byte| *byte == b'?'));
+            }
+        }
+    }
+}
+
+/// The C interface has a number where this crate has a `bool`.
+#[test]
+fn every_number_but_0_sorts() {
+    let [sheet, respelled, sorted] = SHEETS[2];
+    for (number, expected) in [
+        (0, respelled),
+        (1, sorted),
+        (2, sorted),
+        (256, sorted),
+        (1 << 31, sorted),
+        (u32::MAX, sorted),
+    ] {
+        let mut out = vec![0; expected.len()];
+        let answer = exact::respell(sheet.as_bytes(), number, &mut out);
+        assert_eq!((answer.refusal, answer.bytes), (0, expected.len()));
+        assert_eq!(out, expected.as_bytes(), "{number}");
+    }
+}
+
+/// Lines that are not of the form, the last two without their newline.
+const MALFORMED_LINES: [&str; 35] = [
+    "\n",
+    "\r\n",
+    " \n",
+    "\0\n",
+    "::1\n",
+    "::1,1\n",
+    ",,\n",
+    "::1,1,\n",
+    "::1,,0\n",
+    ",1,0\n",
+    "::1,1,0,\n",
+    "::1,1,0,0\n",
+    "::1,0,0\n",
+    "::1,1000000,0\n",
+    "::1,4294967297,0\n",
+    "::1,01,0\n",
+    "::1,+1,0\n",
+    "::1,-1,0\n",
+    "::1,1,1401\n",
+    "::1,1,65536\n",
+    "::1,1,00\n",
+    "::1,1,07\n",
+    "::1,1,7.0\n",
+    "::1,1,0\r\n",
+    "::1, 1,0\n",
+    " ::1,1,0\n",
+    "::1,1,0 \n",
+    "::1,1,0\0\n",
+    "::1;1;0\n",
+    "\u{feff}::1,1,0\n",
+    "010.0.0.12,1,0\n",
+    "::1/128,1,0\n",
+    "1:2:3:4:5:6:7:8::,1,0\n",
+    "::1,1,0",
+    "x",
+];
+
+#[test]
+fn lines_of_sheets() {
+    for line in [
+        "::1,1,0\n",
+        "::1,999999,1400\n",
+        "::1,10,7\n",
+        "0.0.0.0,100000,1399\n",
+    ] {
+        assert_eq!(respell(line, false), Ok(line.into()));
+    }
+    let long_address = format!("{}::1,1,0\n", "0".repeat(62));
+    for line in MALFORMED_LINES.into_iter().chain([&long_address[..]]) {
+        for sheet in [line.to_string(), format!("::1,1,0\n{line}")] {
+            assert_eq!(respell(&sheet, false), Err(Malformed), "{sheet:?}");
+            assert_eq!(respell(&sheet, true), Err(Malformed), "{sheet:?}");
+        }
+        let sheet = format!("{line}::1,1,0\n");
+        // Two lines without a newline between them are one malformed line.
+        assert_eq!(respell(&sheet, true), Err(Malformed), "{sheet:?}");
+    }
+}
+
+#[test]
+fn longest_sheets() {
+    let line = "10.0.0.12,7,650\n";
+    for sorts in [false, true] {
+        let most = line.repeat(MOST_LINES);
+        assert_eq!(respell(&most, sorts), Ok(most.clone().into()));
+        for more in [line, "x", "\n"] {
+            assert_eq!(respell(format!("{most}{more}"), sorts), Err(TooMany));
+        }
+        // A line without its newline is the last that a sheet may have, and malformed.
+        let less = line.repeat(MOST_LINES - 1);
+        assert_eq!(respell(less.clone() + "x", sorts), Err(Malformed));
+        assert_eq!(respell(less + "x\nx", sorts), Err(TooMany));
+
+        // As many in falling order, each with a reading of its own.
+        let line = |n: usize| format!("{:x}::,{},{}\n", MOST_LINES - n, 1 + n, n);
+        let falling: Vec<String> = (0..MOST_LINES).map(line).collect();
+        let mut expected = falling.clone();
+        if sorts {
+            expected.reverse();
+        }
+        let expected = expected.concat().into_bytes();
+        assert_eq!(respell(falling.concat(), sorts), Ok(expected));
+
+        // No sheet of so many bytes is good: each line of 1,024 would have 64, and has 58 at most.
+        for (byte, refusal) in [(b'\n', TooMany), (b'x', Malformed)] {
+            let sheet = [byte; LONGEST_SHEET + 1];
+            assert_eq!(respell(&sheet[..LONGEST_SHEET], sorts), Err(refusal));
+            assert_eq!(respell(sheet, sorts), Err(TextTooLong));
+        }
+    }
+}
+
+/// Where several refusals hold, the first is given, and room is what a call asks about last.
+#[test]
+fn refusals_of_sheets() {
+    let good = "::1,1,0\n";
+    let (many, malformed) = (good.repeat(MOST_LINES), "x\n");
+    for (sheet, refusal) in [
+        ("x\n".repeat(LONGEST_SHEET), TextTooLong),
+        ("x".repeat(LONGEST_SHEET + 1), TextTooLong),
+        (malformed.to_string() + &many, TooMany),
+        (malformed.repeat(MOST_LINES), Malformed),
+        (good.to_string() + malformed, Malformed),
+        (good.to_string(), NoRoom),
+        (many, NoRoom),
+    ] {
+        for sorts in [false, true] {
+            let mut out = [b'?'; 7];
+            assert_eq!(respell_into(&sheet, sorts, &mut []), Err(refusal));
+            assert_eq!(respell_into(&sheet, sorts, &mut out), Err(refusal));
+            assert_eq!(out, [b'?'; 7]);
+            if refusal != NoRoom {
+                let mut out = vec![b'?'; room::SHEET];
+                assert_eq!(respell_into(&sheet, sorts, &mut out), Err(refusal));
+                assert!(out.iter().all(|byte| *byte == b'?'));
+            }
+        }
+    }
+}

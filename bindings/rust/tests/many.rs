@@ -192,3 +192,72 @@ fn any_list_is_gathered() {
         assert_eq!(twice.as_ref(), Ok(&gathered));
     }
 }
+
+/// A line of a sheet: one of few addresses, spelt in one of three ways, or any.
+fn line(numbers: &mut Numbers) -> String {
+    let few = Ipv6Addr::from_bits(numbers.below(3) as u128);
+    let address = match numbers.below(6) {
+        0 => few.to_string(),
+        1 => few.segments().map(|group| format!("{group:04X}")).join(":"),
+        2 => format!("0:0:0::0.0.0.{}", few.to_bits()),
+        3 => Ipv4Addr::from_bits(numbers.below(3) as u32).to_string(),
+        _ => numbers.address().to_string(),
+    };
+    let (volume, ph) = (1 + numbers.below(999_999), numbers.below(1_401));
+    format!("{address},{volume},{ph}\n")
+}
+
+/// The address of a line, and what is behind it.
+fn taken_apart(line: &str) -> (IpAddr, &str) {
+    let (address, reading) = line.split_once(',').unwrap();
+    (address.parse().unwrap(), reading)
+}
+
+/// Each line keeps its reading, and the sorted lines are those lines sorted.
+#[test]
+fn any_sheet_is_respelled() {
+    let mut numbers = Numbers(5);
+    for _ in 0..ROUNDS / 20 {
+        let sheet: String = (0..numbers.below(40)).map(|_| line(&mut numbers)).collect();
+        let respelled = String::from_utf8(respell(&sheet, false).unwrap()).unwrap();
+        let sorted = String::from_utf8(respell(&sheet, true).unwrap()).unwrap();
+
+        let mut lines: Vec<_> = sheet.lines().map(taken_apart).collect();
+        assert!(respelled.lines().map(taken_apart).eq(lines.clone()));
+        for line in respelled.lines() {
+            let (address, reading) = taken_apart(line);
+            assert_eq!(line, format!("{},{reading}", write_address(address)));
+        }
+        // Stable, and the standard library has IPv4 before IPv6 too.
+        lines.sort_by_key(|(address, _)| *address);
+        assert!(sorted.lines().map(taken_apart).eq(lines));
+        assert_eq!(respell(&respelled, true).as_deref(), Ok(sorted.as_bytes()));
+    }
+}
+
+/// Of a sheet in which some bytes are changed, what is accepted is respelled the same again.
+#[test]
+fn any_damaged_sheet_is_answered() {
+    const BYTES: &[u8] = b"0123456789.:,af\n\r \0\xff";
+    let mut numbers = Numbers(6);
+    let mut accepted = 0;
+    for _ in 0..ROUNDS / 2 {
+        let mut sheet: String = (0..1 + numbers.below(3))
+            .map(|_| line(&mut numbers))
+            .collect();
+        let place = numbers.below(sheet.len());
+        sheet.truncate(sheet.len() - numbers.below(2) * numbers.below(3));
+        let mut sheet = sheet.into_bytes();
+        if let Some(byte) = sheet.get_mut(place) {
+            *byte = BYTES[numbers.below(BYTES.len())];
+        }
+        match respell(&sheet, true) {
+            Ok(sorted) => {
+                accepted += 1;
+                assert_eq!(respell(&sorted, true).as_ref(), Ok(&sorted));
+            }
+            Err(refusal) => assert_eq!(refusal, Refusal::Malformed),
+        }
+    }
+    assert!((ROUNDS / 20..ROUNDS / 2).contains(&accepted), "{accepted}");
+}

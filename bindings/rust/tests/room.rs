@@ -126,3 +126,27 @@ fn longest_uncovered_lists() {
         }
     }
 }
+
+#[test]
+fn longest_sheets() {
+    let line = format!("{LAST_6},999999,1400\n");
+    let sheet = line.repeat(MOST_LINES).into_bytes();
+    assert_eq!(sheet.len(), room::SHEET);
+    for sorted in [false, true] {
+        assert_eq!(respell(&sheet, sorted).as_ref(), Ok(&sheet));
+        let mut out = vec![0; room::SHEET];
+        assert_eq!(respell_into(&sheet, sorted, &mut out), Ok(&sheet[..]));
+        assert_eq!(
+            respell_into(&sheet, sorted, &mut out[1..]),
+            Err(Refusal::NoRoom)
+        );
+    }
+}
+
+/// A line may be longer respelled, and `respell` has room for it all the same.
+#[test]
+fn sheets_that_grow() {
+    let sheet = "1::2:3:4:5:6:7,1,0\n".repeat(MOST_LINES);
+    let grown = "1:0:2:3:4:5:6:7,1,0\n".repeat(MOST_LINES);
+    assert_eq!(respell(sheet, true), Ok(grown.into_bytes()));
+}

@@ -1,10 +1,13 @@
 -- What is claimed of the C interface. Assumes nothing.
 use mathlib.Core.Path.{_≡_, refl, sym, ap, subst, _∙_}
 use mathlib.Core.Logic.{_↔_}
-use mathlib.Core.List.{List, [], _∷_}
-use mathlib.Core.Option.{some, Option·getD}
+use mathlib.Core.Bool.{Bool, not}
+use mathlib.Core.List.{List, [], _∷_, map, List·Permᴰ}
+use mathlib.Core.Option.{some, none, Option·getD}
 use Prim.Native.Nat.{ℕ, _+_, _*_, _/_, _≤_, _<_, min, max}
 use native.Mathlib.Omega.{arith}
+use borrow.Author.Tests.{ne-eqb}
+use lib.Dec.{eqb}
 use lib.ListN.{length, take, drop}
 use Rattle.notation.specs.BigEndian.{AllBelow, digitsOf, numberOf}
 use Rattle.cover.specs.Blocks.{CoveredBy, rangeBlocks}
@@ -36,10 +39,14 @@ use Rattle.ranges.specs.Ranges.{rangeRecords, rangeAnswer, rangeLeaves, HoldsFe
 use Rattle.record_lists.specs.RecordLists.{familyWidth, mostRecords, listBlocks, listRefusal}
 use Rattle.list_answers.specs.ListAnswers.{gatheredList, uncoveredList, blocksAnswer, blocksLeave, HoldsFewestOf}
 use Rattle.list_answers.proofs.Claims as gather
+use Rattle.sheet_lines.specs.Lines.{lineEntry}
+use Rattle.sheet_answers.specs.Sheets.{sheetOf, sheetLines}
+use Rattle.sheet_answers.specs.SheetAnswers.{respelled, sheetRefusal, respellAnswer, respellLeaves}
+use Rattle.sheet_answers.proofs.Claims as sheets
 use Rattle.words.specs.Words.{wordsText, wordsRefusal}
 use Rattle.words.proofs.Claims as words
 use Rattle.c_answers.specs.CAnswers.{besides}
-use Rattle.nibharrow.specs.Interface.{Outcome, outcome, whenGiven, writes, addressInto, addressWritten, networkInto, networkWrites, networkWritten, octetsSplit, blockInto, blockWrites, blockWritten, rangeTo, rangeInto, gatherInto, uncoveredInto, wordsInto}
+use Rattle.nibharrow.specs.Interface.{Outcome, outcome, whenGiven, writes, addressInto, addressWritten, networkInto, networkWrites, networkWritten, octetsSplit, blockInto, blockWrites, blockWritten, rangeTo, rangeInto, gatherInto, uncoveredInto, respellInto, wordsInto}
 use Rattle.nibharrow.specs.Buffers.{Wrote, Answered, Filled}
 use Rattle.nibharrow.proofs.InterfaceLaws.{both, when-given, refused-on}
 use Rattle.nibharrow.proofs.InterfaceLaws as interface
@@ -85,6 +92,10 @@ module _ (old : List ℕ) where
   pub uncovered-into : (f : ℕ) (records : List ℕ) → Answered old (uncoveredInto f records old)
   unfolding uncoveredInto blocksAnswer blocksLeave writeLeaves
   uncovered-into f records = judged (0, 0) (λ r. r .1) old _ _ (recordsOf (familyWidth f) (uncoveredList f records)) refl
+
+  pub respell-into : (sorted : ℕ) (t : List ℕ) → Wrote old (respellInto sorted t old)
+  unfolding respellInto respellAnswer respellLeaves
+  respell-into sorted t = written old (sheetRefusal t) (respelled (not (eqb sorted 0)) t)
 
   pub words-into : (n : ℕ) → Wrote old (wordsInto n old)
   unfolding wordsInto
@@ -385,6 +396,47 @@ module _ (f : ℕ) (records old : List ℕ) where
   pub uncovered-short : (uncoveredInto f records old .answers .number ≡ 3) ↔ ((listRefusal f records ≡ 0) × (length old < length (recordsOf (familyWidth f) (uncoveredList f records))))
   unfolding uncoveredInto
   uncovered-short = gather.number-3 f records (uncoveredList f records) old
+
+-- ---- the sheet
+
+-- What the caller then holds: the sheet that was read, respelled, each of its lines once, and behind it what stood there.
+module _ (sorted : ℕ) (t old : List ℕ) where
+  abbrev asked : Bool
+  asked = not (eqb sorted 0)
+
+  module _ (n : ℕ) (good : respellInto sorted t old .answers ≡ gives n) where
+    abbrev seen : List ℕ
+    seen = take n (respellInto sorted t old .leaves)
+
+    pub respelled-held : (seen ≡ respelled asked t) × (n ≡ length (respelled asked t)) × (drop n (respellInto sorted t old .leaves) ≡ drop n old)
+    unfolding respellInto
+    respelled-held = let w = sheets.written asked t old n good in (w .0, w .1, w .3)
+
+    -- "Every output line must carry the volume and pH of one input line with the same address, each input line used exactly once."
+    pub each-line-once : List·Permᴰ (map lineEntry (sheetLines t)) (map lineEntry (sheetLines seen))
+    unfolding respellInto
+    each-line-once = sheets.each-line-once asked t old n good
+
+    -- Respelling twice changes nothing, and sorting twice changes nothing: the second call, with any buffer, does what one call does that sorts
+    -- where either of both was to.
+    pub respelled-again : (then : ℕ) (buf : List ℕ) → respellInto then seen buf ≡ respellInto (sorted + then) t buf
+    unfolding respellInto
+    respelled-again then buf =
+        let (a, l) = sheets.again asked t old n good (not (eqb then 0)) buf in
+        both a l ∙ ap (λ b. outcome (respellAnswer b t buf) (respellLeaves b t buf)) (interface.either-asked sorted then)
+
+  -- By which number the call is refused: 1, then 10, then 2, then 3, each exactly.
+  pub respell-numbers : let k = respellInto sorted t old .answers .number in
+      ((k ≡ 1) ↔ (65536 < length t))
+      × ((k ≡ 10) ↔ ((length t ≤ 65536) × (1024 < length (sheetLines t))))
+      × ((k ≡ 2) ↔ ((length t ≤ 65536) × (length (sheetLines t) ≤ 1024) × (sheetOf t ≡ none)))
+  unfolding respellInto
+  respell-numbers = (sheets.number-1 asked t old, sheets.number-10 asked t old, sheets.number-2 asked t old)
+
+-- Any number but 0 is as good as 1.
+pub sorted-by-any : (sorted : ℕ) (t old : List ℕ) → ¬ (sorted ≡ 0) → respellInto sorted t old ≡ respellInto 1 t old
+unfolding respellInto
+sorted-by-any sorted t old n = rw (ne-eqb sorted 0 n)
 
 -- ---- words
 

@@ -1,11 +1,13 @@
 -- Outcomes of the C interface, from what the calls below it answer. Assumes nothing.
 use mathlib.Core.Path.{_≡_, refl, sym, ap, _∙_}
-use mathlib.Core.Bool.{false}
+use mathlib.Core.Bool.{true, false, cond, not}
 use mathlib.Core.List.{List}
 use Prim.Native.Nat.{ℕ, _+_, _*_, _^_, _<_, min}
-use native.Mathlib.Decide.{decLe}
+use native.Mathlib.Nat.{zero-add}
+use native.Mathlib.Decide.{decLe, decLt}
 use native.Mathlib.Omega.{arith}
 use borrow.Author.Tests.{ne-eqb}
+use lib.Dec.{eqb}
 use Rattle.address.specs.declared.Address.{Address}
 use Rattle.address.specs.declared.Address.the-variants.{V4, V6}
 use Rattle.address.specs.declared.Block.{Block}
@@ -127,3 +129,12 @@ length-cut a length n old e =
 -- a writer's refusal with a number beside it
 pub refused-besides : (n : ℕ) (e : Refusal) → besides n (refuses 0 e) ≡ refuses (0, 0) e
 refused-besides n e = rw (nonzero e)
+
+-- ---- a number that asks, or does not
+
+-- of two numbers one is above 0 exactly if their sum is
+pub either-asked : (m n : ℕ) → cond (not (eqb m 0)) true (not (eqb n 0)) ≡ not (eqb (m + n) 0)
+either-asked m n = elim (decLt 0 m) [
+  | yes h ↦ rw (ne-eqb m 0 (λ e. omega arith), ne-eqb (m + n) 0 (λ e. omega arith))
+  | no l ↦ let none : m ≡ 0 = omega arith in rw (none, zero-add n)
+]

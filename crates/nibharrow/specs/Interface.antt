@@ -1,6 +1,6 @@
 -- The C interface: the outcome of each call. An address crosses as its octets; bytes that are no address are refusal 2 (decision 4).
 -- Assumes nothing.
-use mathlib.Core.Bool.{cond}
+use mathlib.Core.Bool.{cond, not}
 use mathlib.Core.List.{List}
 use Prim.Native.Nat.{ℕ}
 use lib.Dec.{eqb}
@@ -17,6 +17,7 @@ use Rattle.classes.specs.Classes.{splitAnswer}
 use Rattle.blocks.specs.BlockText.{blockTextAnswer, blockText}
 use Rattle.ranges.specs.Ranges.{rangeAnswer, rangeLeaves}
 use Rattle.list_answers.specs.ListAnswers.{gatherAnswer, gatherLeaves, uncoveredAnswer, uncoveredLeaves}
+use Rattle.sheet_answers.specs.SheetAnswers.{respellAnswer, respellLeaves}
 use Rattle.words.specs.Words.{wordsText, wordsRefusal}
 use Rattle.c_answers.specs.CAnswers.{besides}
 
@@ -94,6 +95,10 @@ gatherInto f records old = outcome (gatherAnswer f records old) (gatherLeaves f 
 
 unfoldable pub uncoveredInto : ℕ → List ℕ → List ℕ → Outcome (ℕ × ℕ)
 uncoveredInto f records old = outcome (uncoveredAnswer f records old) (uncoveredLeaves f records old)
+
+-- `nibharrow_respell`: any number but 0 asks for the lines sorted
+unfoldable pub respellInto : ℕ → List ℕ → List ℕ → Outcome ℕ
+respellInto sorted t old = outcome (respellAnswer (not (eqb sorted 0)) t old) (respellLeaves (not (eqb sorted 0)) t old)
 
 -- `nibharrow_refusal_text`
 unfoldable pub wordsInto : ℕ → List ℕ → Outcome ℕ

@@ -5,7 +5,7 @@ ghost use Rattle.text.specs.Strict.{strictAnswer};
 ghost use Rattle.loose.specs.Loose.{looseAnswer};
 ghost use Rattle.classes.specs.Classes.{joinAnswer};
 ghost use Rattle.c_answers.specs.CAnswers.{writtenAnswer, networkReadAnswer, networkHostAnswer, blockReadAnswer, blocksWrittenAnswer};
-ghost use Rattle.nibharrow.specs.Interface.{outcome, addressInto, addressWritten, networkInto, networkWritten, octetsSplit, blockInto, blockWritten, rangeTo, rangeInto, gatherInto, uncoveredInto, wordsInto};
+ghost use Rattle.nibharrow.specs.Interface.{outcome, addressInto, addressWritten, networkInto, networkWritten, octetsSplit, blockInto, blockWritten, rangeTo, rangeInto, gatherInto, uncoveredInto, respellInto, wordsInto};
 use address::Address;
 use address::Block;
 use address::BlockReading;
@@ -38,6 +38,7 @@ use octets::read_octets;
 use octets::write_octets;
 use ranges::range_blocks;
 use records::BlocksWriting;
+use sheet::respell;
 use text::read_address;
 use words::write_words;
 
@@ -170,6 +171,14 @@ pub extern "C" fn nibharrow_uncovered(records: &[u8], family: u32, out: &mut [u8
     ensures { λ r. ⌜ outcome (blocksWrittenAnswer r) (now (out .exit)) ≡ uncoveredInto family (now (records .entry)) (now (out .entry)) ⌝ }
 {
     as_blocks_written(uncovered(as_byte(family), records, out))
+}
+
+// Any number but 0 asks for the lines sorted.
+#[no_mangle]
+pub extern "C" fn nibharrow_respell(sheet: &[u8], sorted: u32, out: &mut [u8]) -> Written
+    ensures { λ r. ⌜ outcome (writtenAnswer r) (now (out .exit)) ≡ respellInto sorted (now (sheet .entry)) (now (out .entry)) ⌝ }
+{
+    as_written(respell(sheet, sorted != 0, out))
 }
 
 #[no_mangle]

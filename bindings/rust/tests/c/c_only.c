@@ -61,6 +61,11 @@ int main(void)
     ANSWER(blocks_written, uncovered(ALL_4, 4, NOTHING), blocks, bytes);
     ANSWER(blocks_written, uncovered(NOTHING, 6, NOTHING), blocks, bytes);
     ANSWER(blocks_written, uncovered(ALL_6, 6, NOTHING), blocks, bytes);
+    WRITTEN(respell(NOTHING, 0, NOTHING));
+    WRITTEN(respell(NOTHING, 1, NOTHING));
+    WRITTEN(respell(TEXT("10.0.0.12,7,650\n"), 0, NOTHING));
+    WRITTEN(respell(TEXT("10.0.0.12,7,650\n"), 1, NOTHING));
+    WRITTEN(respell(TEXT("10.0.0.12,7,650"), 1, NOTHING));
     WRITTEN(refusal_text(0, NOTHING));
     WRITTEN(refusal_text(1, NOTHING));
 
