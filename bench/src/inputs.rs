@@ -1,7 +1,7 @@
 //! The inputs of the rows: made beforehand, the same in every run.
 
 use std::ffi::c_char;
-use std::net::{Ipv4Addr, Ipv6Addr};
+use std::net::{IpAddr, Ipv4Addr, Ipv6Addr};
 
 /// How many inputs a row has. A processor learns the branches of 1,024 texts by heart within a round,
 /// and then reads them up to twice as fast as texts it has never seen; these are too many for that,
@@ -12,6 +12,10 @@ const COUNT: usize = 16_384;
 /// learn their branches, and few enough to stay in its second cache.
 const RECORDS: usize = 512;
 const LISTS: usize = 32;
+
+/// How many lines a sheet has, and how many sheets a row has: as many lines as another row has inputs.
+const LINES: usize = 1_024;
+const SHEETS: usize = COUNT / LINES;
 
 /// Text as both sides want it: a length, and a zero byte behind it for the C library.
 pub struct Text(&'static str);
@@ -46,6 +50,13 @@ pub struct Range<const N: usize> {
 pub struct List {
     pub records: Vec<u8>,
     pub family: u32,
+    pub room: usize,
+}
+
+/// A sheet, whether its lines are to be sorted, and the room that it is lent when it is written.
+pub struct Sheet {
+    pub text: Vec<u8>,
+    pub sorted: bool,
     pub room: usize,
 }
 
@@ -339,4 +350,65 @@ pub fn gathered_lists<const N: usize>(room: usize) -> Vec<List> {
             .map(|part| within(part, small(random)))
             .collect()
     })
+}
+
+// ---- sheets
+
+/// A line of a sheet with any volume and any pH.
+fn with_reading(random: &mut Random, address: String) -> String {
+    let (volume, ph) = (random.within(1, 999_999), random.within(0, 1_400));
+    format!("{address},{volume},{ph}\n")
+}
+
+pub fn line4(random: &mut Random) -> String {
+    let address = ipv4(random, 0, 255).to_string();
+    with_reading(random, address)
+}
+
+/// A line with any address, or one with runs of zeros in normal text, in upper case, or in full. None
+/// has a dotted tail, since others write some of these with one again.
+pub fn line6(random: &mut Random) -> String {
+    let address = match random.within(0, 3) {
+        0 => ipv6(random).to_string(),
+        1 => ipv6_zeros(random).to_string(),
+        2 => ipv6_zeros(random).to_string().to_uppercase(),
+        _ => ipv6_zeros(random)
+            .segments()
+            .map(|g| format!("{g:04x}"))
+            .join(":"),
+    };
+    with_reading(random, address)
+}
+
+/// A line of either family.
+pub fn line(random: &mut Random) -> String {
+    match random.within(0, 1) {
+        0 => line4(random),
+        _ => line6(random),
+    }
+}
+
+/// As many sheets as a row has, to be sorted, of the lines that `make` makes, in no order.
+pub fn sheets(room: usize, make: impl Fn(&mut Random) -> String) -> Vec<Sheet> {
+    let mut random = Random(1);
+    let mut sheet = |_| Sheet {
+        text: (0..LINES)
+            .map(|_| make(&mut random))
+            .collect::<String>()
+            .into(),
+        sorted: true,
+        room,
+    };
+    (0..SHEETS).map(&mut sheet).collect()
+}
+
+/// The sheet with its lines in order already, in the spellings that they have.
+pub fn in_order(sheet: Sheet) -> Sheet {
+    let text = String::from_utf8(sheet.text).unwrap();
+    let mut lines: Vec<&str> = text.split_inclusive('\n').collect();
+    lines.sort_by_key(|line| line.split(',').next().unwrap().parse::<IpAddr>().unwrap());
+    Sheet {
+        text: lines.concat().into(),
+        ..sheet
+    }
 }

@@ -4,11 +4,12 @@ mod inputs;
 mod measure;
 mod peers;
 mod plot;
+mod sheets;
 mod table;
 
 use std::net::{Ipv4Addr, Ipv6Addr};
 
-use inputs::{between, covered, inputs, most_blocks, texts, Base, Block, List, Range, Text};
+use inputs::{between, covered, inputs, most_blocks, texts, Base, Block, List, Range, Sheet, Text};
 use measure::{measure, verify, Answer};
 use nibharrow::{exact, room};
 use table::Row;
@@ -23,6 +24,7 @@ const RANGE: Option<f64> = Some(1.3);
 const C_READERS: Option<f64> = Some(1.0);
 const LIST: Option<f64> = Some(1.5);
 const LIST_IN_ORDER: Option<f64> = Some(1.0);
+const SHEET: Option<f64> = Some(1.0);
 
 struct Bench {
     markdown: bool,
@@ -286,6 +288,42 @@ impl Bench {
         }
     }
 
+    fn sheet_rows(&mut self) {
+        let room = room::SHEET;
+        let tight = |sheet: Sheet| {
+            let mut out = vec![0; room];
+            let written = sheets::respell::<false>(&sheet.text, sheet.sorted, &mut out);
+            Sheet {
+                room: written.bytes,
+                ..sheet
+            }
+        };
+        let unsorted = |sheet| Sheet {
+            sorted: false,
+            ..sheet
+        };
+        let mixed = || inputs::sheets(room, inputs::line).into_iter();
+        for (kind, sheets) in [
+            ("random IPv4", inputs::sheets(room, inputs::line4)),
+            ("random IPv6", inputs::sheets(room, inputs::line6)),
+            ("mixed", mixed().collect()),
+            ("mixed, in order", mixed().map(inputs::in_order).collect()),
+            ("mixed, unsorted", mixed().map(unsorted).collect()),
+            ("mixed, no room to spare", mixed().map(tight).collect()),
+        ] {
+            let work = format!("sheet, {kind}");
+            let respell = |s: &Sheet, out: &mut [u8]| {
+                exact::respell(&s.text, s.sorted.into(), &mut out[..s.room])
+            };
+            self.row((&work, "like Rust", SHEET), &sheets, respell, |s, out| {
+                sheets::respell::<false>(&s.text, s.sorted, &mut out[..s.room])
+            });
+            self.row((&work, "Rust by hand", None), &sheets, respell, |s, out| {
+                sheets::respell::<true>(&s.text, s.sorted, &mut out[..s.room])
+            });
+        }
+    }
+
     fn classes(&mut self) {
         let addresses = inputs(|r| inputs::ipv4(r, 0, 223).octets());
         self.row(
@@ -321,6 +359,7 @@ fn main() {
     bench.list_rows::<16, true>("IPv6", room::GATHER_6);
     bench.list_rows::<4, false>("IPv4", room::UNCOVERED_4);
     bench.list_rows::<16, false>("IPv6", room::UNCOVERED_6);
+    bench.sheet_rows();
     bench.classes();
     print!(
         "{}",

@@ -41,16 +41,16 @@ extern "C" {
 }
 
 /// An answer, or the number of a refusal.
-type Outcome<T> = Result<T, u32>;
+pub type Outcome<T> = Result<T, u32>;
 
-fn written(outcome: Outcome<usize>) -> Written {
+pub fn written(outcome: Outcome<usize>) -> Written {
     match outcome {
         Ok(bytes) => Written { refusal: 0, bytes },
         Err(refusal) => Written { refusal, bytes: 0 },
     }
 }
 
-fn store(bytes: &[u8], out: &mut [u8]) -> Outcome<usize> {
+pub fn store(bytes: &[u8], out: &mut [u8]) -> Outcome<usize> {
     let out = out.get_mut(..bytes.len()).ok_or(3u32)?;
     out.copy_from_slice(bytes);
     Ok(bytes.len())
