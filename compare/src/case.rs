@@ -1,7 +1,7 @@
 //! One call with its inputs, put to the library or to the second implementation, and its answer in
 //! common terms.
 
-use crate::rules;
+use crate::{rules, sheets};
 use nibharrow::exact;
 use nibharrow::raw::{BlockRead, BlocksWritten, NetworkHost, NetworkRead, Written};
 use std::fmt;
@@ -20,11 +20,12 @@ pub enum Case {
     RangeBlocks { first: Vec<u8>, last: Vec<u8> },
     Gather { records: Vec<u8>, family: u32 },
     Uncovered { records: Vec<u8>, family: u32 },
+    Respell { sheet: Vec<u8>, sorted: u32 },
     RefusalText { number: u32 },
 }
 
 /// Each call with every refusal the rules make possible for it; 0 is a good answer.
-pub const OUTCOMES: [(&str, &[u32]); 13] = [
+pub const OUTCOMES: [(&str, &[u32]); 14] = [
     ("read_address", &[0, 9, 1, 2, 3]),
     ("write_address", &[0, 2, 3]),
     ("read_loose", &[0, 1, 2, 3]),
@@ -37,11 +38,17 @@ pub const OUTCOMES: [(&str, &[u32]); 13] = [
     ("range_blocks", &[0, 9, 2, 8, 3]),
     ("gather", &[0, 9, 2, 10, 4, 5, 3]),
     ("uncovered", &[0, 9, 2, 10, 4, 5, 3]),
+    ("respell", &[0, 1, 10, 2, 3]),
     ("refusal_text", &[0, 2, 3]),
 ];
 
-/// The records of the longest range, and so more than any other answer but one of a call on records.
+/// The records of the longest range, and so more than any other answer but one of a call on records or
+/// on a sheet.
 const AMPLE_ROOM: usize = 254 * 17;
+
+/// As many lines as a sheet may have, each an address of 39 bytes, a volume of 6 and a pH of 4, with
+/// two commas and a newline.
+const SHEET_ROOM: usize = 1_024 * (39 + 6 + 4 + 3);
 
 /// The room in which the words of every refusal fit.
 pub const REFUSAL_TEXT_ROOM: usize = 54;
@@ -134,7 +141,8 @@ impl Case {
             Case::RangeBlocks { .. } => 9,
             Case::Gather { .. } => 10,
             Case::Uncovered { .. } => 11,
-            Case::RefusalText { .. } => 12,
+            Case::Respell { .. } => 12,
+            Case::RefusalText { .. } => 13,
         };
         OUTCOMES[place].0
     }
@@ -158,6 +166,7 @@ impl Case {
             Case::RangeBlocks { first, last } => exact::range_blocks(first, last, out).into(),
             Case::Gather { records, family } => exact::gather(records, *family, out).into(),
             Case::Uncovered { records, family } => exact::uncovered(records, *family, out).into(),
+            Case::Respell { sheet, sorted } => exact::respell(sheet, *sorted, out).into(),
             Case::RefusalText { number } => exact::refusal_text(*number, out).into(),
         }
     }
@@ -183,6 +192,7 @@ impl Case {
             Case::RangeBlocks { first, last } => listed(rules::range_blocks(first, last, out)),
             Case::Gather { records, family } => listed(rules::gather(records, *family, out)),
             Case::Uncovered { records, family } => listed(rules::uncovered(records, *family, out)),
+            Case::Respell { sheet, sorted } => written(sheets::respell(sheet, *sorted, out)),
             Case::RefusalText { number } => written(refusal_text(*number, out)),
         }
     }
@@ -195,6 +205,7 @@ impl Case {
             // at most.
             Case::Uncovered { records, family: 4 } => (1 + records.len() / 5 * 31) * 5,
             Case::Uncovered { records, .. } => (1 + records.len() / 17 * 127) * 17,
+            Case::Respell { .. } => SHEET_ROOM,
             _ => AMPLE_ROOM,
         }
     }
@@ -202,7 +213,9 @@ impl Case {
     /// The library's answer with room for any but the longest ranges, and the bytes it counts.
     pub fn library_ample(&self) -> (Answer, Vec<u8>) {
         let room = match self {
-            Case::Gather { .. } | Case::Uncovered { .. } => self.ample_room(),
+            Case::Gather { .. } | Case::Uncovered { .. } | Case::Respell { .. } => {
+                self.ample_room()
+            }
             _ => REFUSAL_TEXT_ROOM,
         };
         let mut out = vec![0; room];
@@ -225,7 +238,8 @@ fn refusal_text(number: u32, out: &mut [u8]) -> Result<usize, u32> {
     Ok(length)
 }
 
-/// How many bytes are shown at most: all of every list that is handed in.
+/// How many bytes are shown at most: all of every list that is handed in, and the start of a long
+/// sheet.
 const MOST_SHOWN: usize = 9_000;
 
 /// Bytes as escaped text and as hex.
@@ -260,6 +274,7 @@ impl fmt::Display for Case {
             Case::Gather { records, family } | Case::Uncovered { records, family } => {
                 write!(f, "{}, family {family}", Shown(records))
             }
+            Case::Respell { sheet, sorted } => write!(f, "{}, sorted {sorted}", Shown(sheet)),
             Case::RefusalText { number } => write!(f, "number {number}"),
         }
     }

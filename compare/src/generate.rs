@@ -4,6 +4,7 @@
 use crate::case::Case;
 use crate::random::Random;
 use crate::rules::MOST_RECORDS;
+use crate::sheet_inputs;
 
 /// The bytes that mean something in some form, and a few that only look so.
 const ALPHABET: &[u8] = b"0123456789abcdefABCDEFxX.:/ 0001..::/%-+g\t";
@@ -19,10 +20,16 @@ type TextMaker = fn(&mut Random) -> String;
 /// A call on records takes as long as some thirty others, so that it has one turn in a hundred.
 const RECORDS_TURN: u64 = 100;
 
+/// A call on a sheet takes longer still. Its turn is none of those on records.
+const SHEET_TURN: u64 = 200;
+
 /// A random call of each kind in turn, so that none is rare.
 pub fn case(random: &mut Random, turn: u64) -> Case {
     if turn.is_multiple_of(RECORDS_TURN) {
         return on_records(random);
+    }
+    if turn % SHEET_TURN == SHEET_TURN / 4 {
+        return sheet_inputs::case(random);
     }
     match turn % 11 {
         0 => Case::ReadAddress {
@@ -438,14 +445,14 @@ pub fn strict(random: &mut Random) -> String {
     }
 }
 
-fn dotted(number: u32) -> String {
+pub fn dotted(number: u32) -> String {
     let [a, b, c, d] = number.to_be_bytes();
     format!("{a}.{b}.{c}.{d}")
 }
 
 /// IPv6 text of the given address, or of any: some run of zero groups shortened, the digits spelled
 /// this way or that, and sometimes a dotted tail.
-fn colons(random: &mut Random, address: Option<u128>) -> String {
+pub fn colons(random: &mut Random, address: Option<u128>) -> String {
     let number = address.unwrap_or_else(|| number(random, 128));
     let dotted_tail = random.percent(20);
     let groups = if dotted_tail { 6 } else { 8 };

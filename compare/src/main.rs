@@ -1,9 +1,10 @@
 //! Compares the library with a second implementation of its rules, with the C library of the
 //! machine and with `std::net`.
 //!
-//! `compare [--seed N] [--count N] [--program PATH] [--script PATH]`: the seed is the clock's unless
-//! given; the sweeps always run, and random calls follow until there are `count` comparisons; the
-//! range program is compared as well, by itself and by the script that runs it.
+//! `compare [--seed N] [--count N] [--program PATH] [--sheet-program PATH] [--script PATH]`: the seed is
+//! the clock's unless given; the sweeps always run, and random calls follow until there are `count`
+//! comparisons; the range program and the sheet program are compared as well, each by itself and both
+//! by the script that runs them.
 
 mod case;
 mod clib;
@@ -18,6 +19,11 @@ mod random;
 mod roundtrips;
 mod rules;
 mod run;
+mod sheet_inputs;
+mod sheet_laws;
+mod sheet_program;
+mod sheet_sweeps;
+mod sheets;
 mod specimens;
 mod sweeps;
 
@@ -25,6 +31,7 @@ use case::Case;
 use judge::Judge;
 use program::Kind;
 use run::Run;
+use std::io;
 use std::process::ExitCode;
 use std::time::{Instant, SystemTime, UNIX_EPOCH};
 
@@ -34,6 +41,7 @@ struct Options {
     seed: u64,
     count: u64,
     program: Option<String>,
+    sheet_program: Option<String>,
     script: Option<String>,
 }
 
@@ -45,6 +53,7 @@ fn options() -> Result<Options, String> {
         seed: clock,
         count: DEFAULT_COUNT,
         program: None,
+        sheet_program: None,
         script: None,
     };
     let mut arguments = std::env::args().skip(1);
@@ -59,10 +68,12 @@ fn options() -> Result<Options, String> {
             "--seed" => options.seed = number()?,
             "--count" => options.count = number()?,
             "--program" => options.program = Some(value),
+            "--sheet-program" => options.sheet_program = Some(value),
             "--script" => options.script = Some(value),
             _ => {
                 return Err(format!(
-                    "{name} is unknown; known are --seed N, --count N, --program PATH and --script PATH"
+                    "{name} is unknown; known are --seed N, --count N, --program PATH, \
+                     --sheet-program PATH and --script PATH"
                 ))
             }
         }
@@ -81,7 +92,8 @@ fn main() -> ExitCode {
     println!("seed {}", options.seed);
     let started = Instant::now();
     let mut run = Run::new(options.seed);
-    for sweep in sweeps::SWEEPS.iter().chain(&list_sweeps::SWEEPS) {
+    let sweeps = sweeps::SWEEPS.iter().chain(&list_sweeps::SWEEPS);
+    for sweep in sweeps.chain(&sheet_sweeps::SWEEPS) {
         sweep(&mut run);
     }
     let swept = run.judge.compared;
@@ -91,19 +103,28 @@ fn main() -> ExitCode {
         run.judge.compared - swept
     );
     run.report(options.count >= DEFAULT_COUNT);
-    for (kind, path) in [
-        (Kind::Program, &options.program),
-        (Kind::Script, &options.script),
-    ] {
-        let Some(path) = path else { continue };
-        if let Err(error) = program::compare(&mut run.judge, kind, path) {
-            run.judge.fail(&format!("{path} cannot be run: {error}"));
-        }
-    }
+    compare_programs(&mut run.judge, &options);
     let (compared, failures) = (run.judge.compared, run.judge.failures);
     let seconds = started.elapsed().as_secs_f64();
     println!("total: {compared} compared in {seconds:.1} s, {failures} failures");
     ExitCode::from(u8::from(failures > 0))
+}
+
+/// Compares the programs that are named.
+fn compare_programs(judge: &mut Judge, options: &Options) {
+    type Compare = fn(&mut Judge, Kind, &str) -> io::Result<()>;
+    let (ranges, sheets): (Compare, Compare) = (program::compare, sheet_program::compare);
+    for (compare, kind, path) in [
+        (ranges, Kind::Program, &options.program),
+        (ranges, Kind::Script, &options.script),
+        (sheets, Kind::Program, &options.sheet_program),
+        (sheets, Kind::Script, &options.script),
+    ] {
+        let Some(path) = path else { continue };
+        if let Err(error) = compare(judge, kind, path) {
+            judge.fail(&format!("{path} cannot be run: {error}"));
+        }
+    }
 }
 
 /// Random calls until that many comparisons are made.

@@ -7,6 +7,7 @@ use crate::random::Random;
 use crate::rules;
 use nibharrow::exact;
 use std::collections::BTreeMap;
+use std::ffi::OsStr;
 use std::fmt;
 use std::io::{self, Write};
 use std::process::{Command, Stdio};
@@ -15,6 +16,9 @@ use std::thread;
 const SMALL_RUNS: u32 = 300;
 const LARGE_RUNS: u32 = 6;
 const LARGE_LINES: usize = 5_000;
+
+/// The name of standard input where something is told of it.
+pub const STANDARD_INPUT: &str = "(standard input)";
 
 /// What a line can come to: blocks (0), or one of these refusals.
 const OUTCOMES: [u32; 5] = [0, 1, 2, 8, 9];
@@ -45,10 +49,10 @@ pub enum Kind {
 
 /// What a run wrote to standard output and to standard error, and its status unless it was killed.
 #[derive(PartialEq)]
-struct Ended {
-    output: Vec<u8>,
-    error: Vec<u8>,
-    status: Option<i32>,
+pub struct Ended {
+    pub output: Vec<u8>,
+    pub error: Vec<u8>,
+    pub status: Option<i32>,
 }
 
 /// Runs the program or the script again and again, and compares all that it writes, and its status,
@@ -97,17 +101,17 @@ fn expected(kind: Kind, explain: bool, input: &[u8]) -> Ended {
     Ended {
         output: rules::ranges_program(input),
         error: told
-            .flat_map(|&(line, refusal)| note(line, refusal))
+            .flat_map(|&(line, refusal)| note(STANDARD_INPUT, line, refusal))
             .collect(),
         status: Some(status),
     }
 }
 
 /// What is told of a refused line: `FILE:LINE: refused N: WORDS`, with the words of the library.
-fn note(line: usize, refusal: u32) -> Vec<u8> {
+pub fn note(file: &str, line: usize, refusal: u32) -> Vec<u8> {
     let mut words = [0; REFUSAL_TEXT_ROOM];
     let length = exact::refusal_text(refusal, &mut words).bytes;
-    let mut note = format!("(standard input):{line}: refused {refusal}: ").into_bytes();
+    let mut note = format!("{file}:{line}: refused {refusal}: ").into_bytes();
     note.extend(&words[..length]);
     note.push(b'\n');
     note
@@ -150,7 +154,12 @@ fn outcome(line: &[u8]) -> u32 {
 }
 
 /// Runs the program or the script. Its input comes in pieces of random size.
-fn run(random: &mut Random, path: &str, arguments: &[&str], input: &[u8]) -> io::Result<Ended> {
+pub fn run(
+    random: &mut Random,
+    path: &str,
+    arguments: &[impl AsRef<OsStr>],
+    input: &[u8],
+) -> io::Result<Ended> {
     let mut child = Command::new(path)
         .args(arguments)
         .stdin(Stdio::piped())
@@ -201,7 +210,7 @@ fn first_difference(kind: Kind, input: &[u8], ended: &Ended, expected: &Ended) -
 }
 
 /// How many bytes are the same from the start.
-fn same_start(one: &[u8], other: &[u8]) -> usize {
+pub fn same_start(one: &[u8], other: &[u8]) -> usize {
     one.iter()
         .zip(other)
         .take_while(|(one, other)| one == other)
@@ -209,7 +218,7 @@ fn same_start(one: &[u8], other: &[u8]) -> usize {
 }
 
 /// Some of the text around the byte.
-fn around(text: &[u8], byte: usize) -> String {
+pub fn around(text: &[u8], byte: usize) -> String {
     let rest = &text[byte.saturating_sub(40).min(text.len())..];
     Shown(&rest[..rest.len().min(120)]).to_string()
 }

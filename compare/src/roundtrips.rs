@@ -2,13 +2,16 @@
 
 use crate::case::{Answer, Case};
 use crate::judge::Judge;
-use crate::lists;
+use crate::{lists, sheet_laws};
 
 /// Checks the way back from a good answer of a writing call, of a split, of a join or of a call on
-/// records. Returns whether there is one.
+/// records or a sheet. Returns whether there is one.
 pub fn check(judge: &mut Judge, case: &Case) -> bool {
     if let Case::Gather { .. } | Case::Uncovered { .. } = case {
         return lists::check(judge, case);
+    }
+    if let Case::Respell { sheet, .. } = case {
+        return sheet_laws::check(judge, sheet);
     }
     let (answer, bytes) = case.library_ample();
     if answer.refusal != 0 {

@@ -184,7 +184,7 @@ fn limited(text: &[u8]) -> Result<&str, u32> {
     std::str::from_utf8(text).map_err(|_| MALFORMED)
 }
 
-fn put(bytes: &[u8], out: &mut [u8]) -> Result<usize, u32> {
+pub fn put(bytes: &[u8], out: &mut [u8]) -> Result<usize, u32> {
     let free = out.get_mut(..bytes.len()).ok_or(NO_ROOM)?;
     free.copy_from_slice(bytes);
     Ok(bytes.len())
@@ -202,14 +202,14 @@ fn put_records(blocks: &[(IpAddr, u32)], out: &mut [u8]) -> Result<(usize, usize
 /// Strict text of either family. The parser of `std::net` agrees with the rules throughout: it
 /// takes no leading zero in a decimal part, no zone, no `::` that stands for no group, and a dotted
 /// tail only as the last two groups.
-fn strict(text: &str) -> Result<IpAddr, u32> {
+pub fn strict(text: &str) -> Result<IpAddr, u32> {
     text.parse().map_err(|_| MALFORMED)
 }
 
 /// Normal text. `std::net` shortens the leftmost longest run of two or more zero groups, as the
 /// rules do, but it writes an IPv4-mapped address with a dotted tail, where the rules have hex
 /// groups. The first five groups of such an address are always its longest run.
-fn normal_text(address: IpAddr) -> String {
+pub fn normal_text(address: IpAddr) -> String {
     match address {
         IpAddr::V6(mapped) if mapped.to_ipv4_mapped().is_some() => {
             let [.., high, low] = mapped.segments();

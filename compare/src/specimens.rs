@@ -1,5 +1,5 @@
-//! The specimens written in the rules, each with the outcome written beside it, and lists that were
-//! worked out by hand.
+//! The specimens written in the rules, each with the outcome written beside it, and lists and sheets
+//! that were worked out by hand.
 
 use crate::case::{Answer, Case};
 
@@ -84,6 +84,7 @@ pub fn rows() -> Vec<Specimen> {
     rows.extend(networks());
     rows.extend(blocks_and_ranges());
     rows.extend(lists());
+    rows.extend(sheets());
     rows
 }
 
@@ -220,6 +221,64 @@ fn lists() -> Vec<Specimen> {
                 outcome: outcome(rest),
             });
         }
+    }
+    rows
+}
+
+/// Each sheet with what it is respelled, and what it is respelled and sorted.
+const SHEETS: [[&str; 3]; 5] = [
+    ["", "", ""],
+    // The apprentice sorted the column of addresses alone, and every reading left its address.
+    [
+        "10.0.0.7,312,655\n10.0.0.2,84,702\n10.0.0.5,1029,588\n",
+        "10.0.0.7,312,655\n10.0.0.2,84,702\n10.0.0.5,1029,588\n",
+        "10.0.0.2,84,702\n10.0.0.5,1029,588\n10.0.0.7,312,655\n",
+    ],
+    // by number and not by text, IPv4 before IPv6
+    [
+        "::,1,0\n10.0.0.10,1,0\n::A,1,0\n10.0.0.9,1,0\n::9,1,0\n",
+        "::,1,0\n10.0.0.10,1,0\n::a,1,0\n10.0.0.9,1,0\n::9,1,0\n",
+        "10.0.0.9,1,0\n10.0.0.10,1,0\n::,1,0\n::9,1,0\n::a,1,0\n",
+    ],
+    // one address in three spellings, with readings that fall
+    [
+        "2001:db8:0:0:1:0:0:1,3,9\n::1,7,7\n2001:DB8::1:0:0:1,2,8\n2001:db8:0:0:1::1,1,7\n",
+        "2001:db8::1:0:0:1,3,9\n::1,7,7\n2001:db8::1:0:0:1,2,8\n2001:db8::1:0:0:1,1,7\n",
+        "::1,7,7\n2001:db8::1:0:0:1,3,9\n2001:db8::1:0:0:1,2,8\n2001:db8::1:0:0:1,1,7\n",
+    ],
+    // one byte longer than it was, and the largest numbers
+    [
+        "1::2:3:4:5:6:7,999999,1400\n",
+        "1:0:2:3:4:5:6:7,999999,1400\n",
+        "1:0:2:3:4:5:6:7,999999,1400\n",
+    ],
+];
+
+fn sheets() -> Vec<Specimen> {
+    let row = |sheet: &str, sorted, outcome| Specimen {
+        case: Case::Respell {
+            sheet: sheet.into(),
+            sorted,
+        },
+        outcome,
+    };
+    let mut rows = Vec::new();
+    for [sheet, respelled, arranged] in SHEETS {
+        rows.push(row(sheet, 0, bytes(respelled.as_bytes())));
+        rows.push(row(sheet, 1, bytes(arranged.as_bytes())));
+    }
+    for (sheet, refusal) in [
+        ("\n".repeat(65_537), 1),
+        ("\n".repeat(65_536), 10),
+        ("::1,1,0\n".repeat(1_025), 10),
+        ("::1,1,0\n".repeat(1_024) + "::1,1,0", 10),
+        ("::1,1,0".to_string(), 2),
+        ("::1,0,0\n".to_string(), 2),
+        ("::1,1,1401\n".to_string(), 2),
+        ("::1,1,0\r\n".to_string(), 2),
+        ("010.0.0.12,1,0\n".to_string(), 2),
+    ] {
+        rows.push(row(&sheet, 1, Outcome::Refused(refusal)));
     }
     rows
 }

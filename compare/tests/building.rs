@@ -1,4 +1,4 @@
-//! When the script `./nibharrow` builds its program, what it says then, and how it ends with the
+//! When the script `./nibharrow` builds a program, what it says then, and how it ends with the
 //! program's status. The project is a small one with a stand-in for `rt`, and the program a few lines
 //! of shell.
 
@@ -212,6 +212,31 @@ fn arguments_reach_the_program_as_they_are() {
     ] {
         project
             .sh(&format!("PATH=$PWD/tools ./nibharrow ranges {words}"))
+            .is(shown, "", 0);
+    }
+}
+
+#[test]
+fn arguments_of_a_sheet_reach_the_program_as_they_are() {
+    let project = project("sheet_arguments", RT);
+    project.sh("mkdir -p target/bin").is("", "", 0);
+    let shows = "#!/bin/sh\nprintf '<%s>' \"$@\"\nprintf 0 >&\"$1\"\n";
+    project.file("target/bin/sheet_main", shows.as_bytes());
+    project.sh("chmod +x target/bin/sheet_main").is("", "", 0);
+    for (words, shown) in [
+        ("", "<9><->"),
+        ("-s", "<9><-s>"),
+        ("-e", "<9><-e>"),
+        ("-e --sort -s --explain", "<9><-se>"),
+        ("'b  c' -s", "<9><-s><b  c>"),
+        ("- -e", "<9><-e><->"),
+        ("-s -- -e", "<9><-s><-e>"),
+        ("-- --", "<9><-><-->"),
+        ("''", "<9><-><>"),
+        ("'*'", "<9><-><*>"),
+    ] {
+        project
+            .sh(&format!("PATH=$PWD/tools ./nibharrow sheet {words}"))
             .is(shown, "", 0);
     }
 }

@@ -1,13 +1,13 @@
 //! The script `./nibharrow` as it is called: what it writes, what it tells on standard error and its
 //! status, where inputs, outputs and arguments are as they should be and where they are not.
 
+mod calls;
 mod scratch;
 
+use calls::{interrupted, set_non_blocking, without_waiting};
 use scratch::{Ended, Scratch};
-use std::fs;
 use std::io::{self, Read, Write};
-use std::os::fd::AsRawFd;
-use std::process::{Command, Stdio};
+use std::process::Stdio;
 use std::sync::Once;
 
 const GOOD: &[u8] = b"10.0.0.1 10.0.0.6\n::1 ::1\n";
@@ -24,8 +24,11 @@ const WORDS: [(&str, &str); 4] = [
     ),
 ];
 
-const USAGE: &str =
-    "usage: ./nibharrow ranges [-e | --explain] [--] [FILE ..]\n       ./nibharrow --help\n";
+const USAGE: &str = "\
+usage: ./nibharrow ranges [-e | --explain] [--] [FILE ..]
+       ./nibharrow sheet [-s | --sort] [-e | --explain] [--] [FILE]
+       ./nibharrow --help
+";
 
 /// A folder of its own. The program is built before the first one, so that no test meets a build.
 fn scratch(name: &str) -> Scratch {
@@ -180,23 +183,6 @@ fn reader_that_goes_away_is_told_where_the_signal_is_ignored() {
         "nibharrow: write error: Broken pipe\n",
         2,
     );
-}
-
-unsafe extern "C" {
-    fn fcntl(descriptor: i32, command: i32, ...) -> i32;
-}
-
-/// Has calls on the end of a pipe fail where they would wait. The numbers are Linux's.
-fn set_non_blocking(end: &impl AsRawFd) {
-    const F_GETFL: i32 = 3;
-    const F_SETFL: i32 = 4;
-    const O_NONBLOCK: i32 = 0o4000;
-    // SAFETY: both commands take and answer plain integers, and the descriptor is open.
-    let set = unsafe {
-        let flags = fcntl(end.as_raw_fd(), F_GETFL);
-        fcntl(end.as_raw_fd(), F_SETFL, flags | O_NONBLOCK)
-    };
-    assert_eq!(set, 0, "fcntl: {}", io::Error::last_os_error());
 }
 
 #[test]
@@ -413,21 +399,6 @@ fn explain_is_taken_in_both_forms_and_behind_a_file() {
     }
 }
 
-/// Runs the command with a standard input that never ends. `timeout` answers 124 for one that waits.
-fn without_waiting(scratch: &Scratch, command: &str) -> Ended {
-    let (reader, writer) = io::pipe().expect("a pipe");
-    let child = scratch
-        .command(&format!("timeout 30 {command}"))
-        .stdin(reader)
-        .stdout(Stdio::piped())
-        .stderr(Stdio::piped())
-        .spawn()
-        .expect("sh runs");
-    let ended = Ended::from(child.wait_with_output().expect("it ends"));
-    drop(writer);
-    ended
-}
-
 #[test]
 fn what_is_not_understood_is_told_without_waiting() {
     let scratch = scratch("not_understood");
@@ -556,34 +527,18 @@ fn recipes_of_the_help_make_lines_of_other_forms_ranges() {
     }
 }
 
-/// A library that is loaded before the C library has every second call of the program interrupted.
 #[test]
 fn interrupted_calls_are_made_again() {
     let scratch = scratch("interrupted");
     scratch.file("many", &many_lines());
     scratch.file("bad", b"x\n");
-    let source = concat!(env!("CARGO_MANIFEST_DIR"), "/tests/interrupt.c");
-    let compiler = std::env::var_os("CC").unwrap_or("cc".into());
-    let compiled = Command::new(compiler)
-        .args(["-shared", "-fPIC", "-o"])
-        .arg(scratch.path("interrupt.so"))
-        .arg(source)
-        .status();
-    assert!(compiled.expect("a C compiler").success());
-    // the program by itself, since the shell would be interrupted as well
-    let program = concat!(env!("CARGO_MANIFEST_DIR"), "/../target/bin/range_main");
-    let preload = scratch.path("interrupt.so");
-    let preload = preload.to_str().expect("a plain path");
-    scratch
-        .sh(&format!(
-            "LD_PRELOAD='{preload}' '{program}' 3 -e many bad 3> status"
-        ))
-        .is(
-            &format!("{}refused 2\n", many_answers()),
-            &format!("bad:1: refused 2: {}\n", WORDS[1].1),
-            0,
-        );
+    let ended = interrupted(&scratch, "range_main 3 -e many bad 3> status");
+    ended.is(
+        &format!("{}refused 2\n", many_answers()),
+        &format!("bad:1: refused 2: {}\n", WORDS[1].1),
+        0,
+    );
     assert_eq!(scratch.read("status"), b"1");
     // it is loaded, and interrupts: each read and write leaves a mark
-    assert!(fs::metadata(scratch.path("interrupted")).is_ok_and(|marks| marks.len() > 50));
+    assert!(scratch.read("interrupted").len() > 50);
 }

@@ -1,2 +1,2 @@
--- RunLaws: what a read has brought, and how a turn follows from its parts.
+-- RunLaws: how a turn follows from its parts.
 pub mod RunLaws

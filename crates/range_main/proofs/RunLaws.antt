@@ -1,55 +1,24 @@
--- What a read has brought, and how a turn of the program follows from its parts. Assumes nothing.
+-- How a turn of the program follows from its parts. Assumes nothing.
 use mathlib.Core.Path.{_≡_, refl, sym, ap, subst, _∙_}
-use mathlib.Core.Bool.{Bool, true, false, not, _||_}
+use mathlib.Core.Bool.{Bool, _||_}
 use mathlib.Core.List.{List}
 use Prim.Native.Nat.{ℕ, zero, suc, _+_, _-_, _≤_}
 use native.Mathlib.Omega.{arith}
-use borrow.Author.Tests.{ltb-true}
-use lib.Dec.{T}
-use lib.IntN.{ℤ, pos, negsuc}
 use lib.ListN.{length, drop, length-take, length-drop}
-use lib.Signed.{nonNeg, ltZ}
-use mir.Syntax.{w64}
-use mir.Val.{SFits, toZ, ofZ}
-use mir.Facts.{toZ-ofZ}
-use Rattle.io.specs.Counts.{clamped}
 use Rattle.range_lines.specs.declared.Fed.{Fed}
 use Rattle.range_lines.specs.Feeding.{placeOf, fed, Feeds, closing}
 use Rattle.range_main.specs.declared.End.{End}
 use Rattle.range_main.specs.declared.End.the-variants.{More, Unread}
-use Rattle.range_main.specs.declared.Got.{Got}
-use Rattle.range_main.specs.declared.Got.the-variants.{Bytes, Again, Failed}
+use Rattle.program_io.specs.Calls.{Filled}
+use Rattle.program_io.specs.declared.Got.{Got}
+use Rattle.program_io.specs.declared.Got.the-variants.{Bytes, Again, Failed}
 use Rattle.range_main.specs.declared.Run.{Run}
-use Rattle.range_main.specs.Runs.{Brought, Filled, Within, pieceOf, given, AnswersPiece, endOf, AnswersEnd, OrUnwritten, fresh, AfterRead}
-
-negative : (z : ℤ) → ltZ z (pos 0) ≡ true → T (not (nonNeg z))
-negative (pos n) e = let l = ltb-true n 0 e in absurd (omega arith)
-negative (negsuc n) e = tt
-
-not-negative : (z : ℤ) → ltZ z (pos 0) ≡ false → T (nonNeg z)
-not-negative (pos n) e = tt
-not-negative (negsuc n) e = let z : _≡_ {A = ℕ} 0 1 = cc in absurd (omega arith)
-
--- as the code tests it
-pub below-zero : (z : ℤ) → SFits w64 z → ltZ (toZ w64 (ofZ w64 z)) (pos 0) ≡ true → T (not (nonNeg z))
-below-zero z f e = negative z (sym (ap (λ x. ltZ x (pos 0)) (toZ-ofZ f)) ∙ e)
-
-pub above-zero : (z : ℤ) → SFits w64 z → ltZ (toZ w64 (ofZ w64 z)) (pos 0) ≡ false → T (nonNeg z)
-above-zero z f e = not-negative z (sym (ap (λ x. ltZ x (pos 0)) (toZ-ofZ f)) ∙ e)
-
-pub same-count : (z : ℤ) (size n : ℕ) → SFits w64 z → n ≡ clamped (toZ w64 (ofZ w64 z)) size → n ≡ clamped z size
-same-count z size n f e = e ∙ ap (λ x. clamped x size) (toZ-ofZ f)
-
-pub brought-filled : (z : ℤ) (size : ℕ) → size ≡ 65536 → (g : Got) → Brought z size g → Filled g
-brought-filled (pos k) size e (Bytes n) b = omega (arith, e, b .1)
-brought-filled (negsuc k) size e (Bytes n) b = omega (arith, b .1)
-brought-filled z size e Again b = tt
-brought-filled z size e Failed b = tt
+use Rattle.range_main.specs.Runs.{Within, pieceOf, given, AnswersPiece, endOf, AnswersEnd, OrUnwritten, fresh, AfterRead}
 
 -- ---- what is done with it
 
-pub filled-bytes : {g : Got} {n : ℕ} → g ≡ Bytes n → Filled g → n ≤ 65536
-filled-bytes e h = subst Filled e h
+pub filled-bytes : {g : Got} {n : ℕ} → g ≡ Bytes n → Filled 65536 g → n ≤ 65536
+filled-bytes e h = subst (Filled 65536) e h
 
 module _ (explain : Bool) (name : List ℕ) (run : Run) {g : Got} (input : List ℕ) (r : Run) where
   pub after-again : g ≡ Again → r ≡ run → AfterRead explain name run g input r

@@ -1,37 +1,19 @@
 -- What the range program does with an input: the pieces that it reads, and its status. Assumes nothing.
 use mathlib.Core.Path.{_≡_}
 use mathlib.Core.Logic.{_⊎_}
-use mathlib.Core.Bool.{Bool, true, false, cond, not, _||_}
+use mathlib.Core.Bool.{Bool, true, false, cond, _||_}
 use mathlib.Core.List.{List}
 use Prim.Native.Nat.{ℕ, zero, suc, _+_, _-_, _≤_, _<_}
-use lib.Dec.{T, ltb}
-use lib.IntN.{ℤ}
+use lib.Dec.{ltb}
 use lib.ListN.{length, take, drop}
-use lib.Signed.{nonNeg}
-use Rattle.io.specs.Counts.{clamped}
 use Rattle.range_lines.specs.declared.Reader.{Reader}
 use Rattle.range_lines.specs.Feeding.{placeOf, Feeding, fed, closing}
 use Rattle.range_main.specs.declared.End.{End}
 use Rattle.range_main.specs.declared.End.the-variants.{More, Ended, Unread, Unwritten}
-use Rattle.range_main.specs.declared.Got.{Got}
-use Rattle.range_main.specs.declared.Got.the-variants.{Bytes, Again, Failed}
+use Rattle.program_io.specs.declared.Got.{Got}
+use Rattle.program_io.specs.declared.Got.the-variants.{Bytes, Again, Failed}
 use Rattle.range_main.specs.declared.Run.{Run}
 use Rattle.range_main.specs.declared.Outcome.{Outcome}
-
--- ---- a read
-
--- What a read that answered `got` has brought to a buffer of so many bytes. Only a read that did not fail has brought bytes, so that none that
--- failed is taken for the end of the input.
-abbrev pub Brought : ℤ → ℕ → Got → Type 0
-Brought got size (Bytes n) = T (nonNeg got) × (n ≡ clamped got size)
-Brought got size Again = T (not (nonNeg got))
-Brought got size Failed = T (not (nonNeg got))
-
--- no more bytes than the buffer has
-abbrev pub Filled : Got → Type 0
-Filled (Bytes n) = n ≤ 65536
-Filled Again = Unit {0}
-Filled Failed = Unit {0}
 
 -- ---- a turn
 

@@ -7,11 +7,18 @@ ghost use mathlib.Core.Path.{_≡_};
 ghost use mathlib.Core.Bool.{false, cond, _||_};
 ghost use Prim.Native.Nat.{_+_, _≤_, _<_, max};
 ghost use lib.ListN.{length};
-ghost use Rattle.range_main.specs.Runs.{Brought, Filled, Within, OrUnwritten, AnswersPiece, AnswersEnd, AfterRead, Turns, endOf, isMore, Finished, statusOf, stopsAt};
+ghost use Rattle.program_io.specs.Calls.{Filled};
+ghost use Rattle.range_main.specs.Runs.{Within, OrUnwritten, AnswersPiece, AnswersEnd, AfterRead, Turns, endOf, isMore, Finished, statusOf, stopsAt};
 use libc::STDERR_FILENO;
 use libc::STDIN_FILENO;
 use libc::STDOUT_FILENO;
-use output::put_bytes;
+use program_io::Digit;
+use program_io::Got;
+use program_io::brought;
+use program_io::is_dash;
+use program_io::put_trouble;
+use program_io::single_digit;
+use program_io::write_text;
 use range_lines::Fed;
 use range_lines::Reader;
 use range_lines::feed;
@@ -25,13 +32,6 @@ pub enum End {
     Ended,
     Unread,
     Unwritten,
-}
-
-// What a read has brought: so many bytes, of which there are none at the end of the input; or nothing, since it was interrupted, or failed.
-pub enum Got {
-    Bytes(usize),
-    Again,
-    Failed,
 }
 
 // An input that is being read: where the reading stands, the bytes of the last piece that are not taken yet, whether a line was refused, and
@@ -57,12 +57,6 @@ struct Verdict {
     stop: bool,
 }
 
-// What is written of a text: how many bytes the calls have taken, and how many are left.
-struct Sent {
-    moved: usize,
-    left: usize,
-}
-
 // What has come of some files: the worst of their statuses, and whether the program is to stop.
 struct Tally {
     status: u8,
@@ -78,64 +72,8 @@ struct Files {
 // Tells on standard error what failed, with the system's words.
 fn tell(what: &[u8]) {
     let mut line = [0u8; 4200];
-    let behind = put_bytes(&mut line, 0, b"nibharrow: ");
-    let end = put_bytes(&mut line, behind, what);
+    let end = put_trouble(&mut line, what);
     os::fail(&line[..end]);
-}
-
-// What a read that answered `got` has brought to the buffer.
-fn brought(got: isize, input: &[u8]) -> Got
-    ensures { λ r. ⌜ Brought got (length (now (input .entry))) r ⌝ }
-{
-    if got < 0 {
-        if os::errno() == libc::EINTR {
-            return Got::Again;
-        }
-        return Got::Failed;
-    }
-    Got::Bytes(io::count(got, input))
-}
-
-// Whether a call that wrote so many bytes has failed: it took none, and was not interrupted.
-fn stuck(put: isize, taken: usize) -> bool
-    ensures { λ r. ⌜ (0 < taken → r ≡ false) ⌝ }
-{
-    if 0 < taken {
-        return false;
-    }
-    if put < 0 {
-        return os::errno() != libc::EINTR;
-    }
-    true
-}
-
-// Writes a text. Each byte was taken by a call, or is left: none is, unless a call failed.
-fn write_text(fd: i32, text: &[u8]) -> Sent
-    ensures { λ r. ⌜ r .moved + r .left ≡ length (now (text .entry)) ⌝ }
-{
-    let mut rest = text;
-    let mut moved: usize = 0;
-    let mut calls: u64 = 0;
-    while 0 < rest.len() {
-        let put = libc::write(fd, rest);
-        let taken = io::count(put, rest);
-        if stuck(put, taken) {
-            return Sent {
-                moved,
-                left: rest.len(),
-            };
-        }
-        if calls == u64::MAX {
-            return Sent {
-                moved,
-                left: rest.len(),
-            };
-        }
-        calls += 1;
-        moved += taken;
-        rest = &rest[taken..];
-    }
-    Sent { moved, left: 0 }
 }
 
 // The input could not be read, or the answers could not be written.
@@ -246,7 +184,7 @@ fn after_read(
     out: &mut [u8],
     notes: &mut [u8],
 ) -> Run
-    requires { ⌜ Within run × (length (now input) ≡ 65536) × (length (now out) ≡ 65536) × (length (now notes) ≡ 65536) × Filled got ⌝ }
+    requires { ⌜ Within run × (length (now input) ≡ 65536) × (length (now out) ≡ 65536) × (length (now notes) ≡ 65536) × Filled 65536 got ⌝ }
     ensures { λ r. ⌜ Within r × AfterRead explain (now (name .entry)) run got (now (input .entry)) r ⌝ }
 {
     match got {
@@ -384,13 +322,6 @@ fn answer_input(fd: i32, explain: bool, name: &[u8]) -> Verdict {
     judge(outcome, name)
 }
 
-fn is_dash(path: &[u8]) -> bool {
-    if path.len() == 1 {
-        return path[0] == b'-';
-    }
-    false
-}
-
 // The file that the argument names.
 fn answer_file(i: usize, explain: bool) -> Verdict {
     let mut path = io::buffer();
@@ -453,23 +384,6 @@ fn answer_files(count: usize, explain: bool) -> Files
     Files { tally, next }
 }
 
-// Writes the status to the descriptor that the first argument names by a digit.
-fn write_status(status: u8) {
-    let mut text = io::buffer();
-    let n = os::arg(1, &mut text);
-    if n != 1 {
-        return;
-    }
-    let digit = text[0];
-    if digit < b'0' {
-        return;
-    }
-    if b'9' < digit {
-        return;
-    }
-    write_text((digit - b'0') as i32, &[48 + status % 10]);
-}
-
 // Whether the second argument asks for notes.
 fn wants_notes() -> bool {
     let mut text = io::buffer();
@@ -481,6 +395,16 @@ fn wants_notes() -> bool {
         return false;
     }
     text[1] == b'e'
+}
+
+// Writes the status to the descriptor that the first argument names by a digit.
+fn write_status(status: u8) {
+    let mut text = io::buffer();
+    let n = os::arg(1, &mut text);
+    let Digit::Is(fd) = single_digit(&text[..n]) else {
+        return;
+    };
+    write_text(fd as i32, &[48 + status % 10]);
 }
 
 fn main() {

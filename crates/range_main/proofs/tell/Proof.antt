@@ -5,20 +5,11 @@ use borrow.Author.Needs.{needs}
 use Rattle.range_main.proofs.tell.Statement.{statement}
 use Rattle.range_main.proofs.tell.Tie as tie
 
-slice-aggregate-put-bytes : tie.Need-slice-aggregate-put-bytes
-slice-aggregate-put-bytes c = search needs
+slice-aggregate-put-trouble : tie.Need-slice-aggregate-put-trouble
+slice-aggregate-put-trouble c = search needs
 
-slice-aggregate-put-bytes-2 : tie.Need-slice-aggregate-put-bytes-2
-slice-aggregate-put-bytes-2 c = search needs
-
-put-bytes-requires : tie.Need-put-bytes-requires
-put-bytes-requires c κs = search needs
-
-slice-aggregate-put-bytes-3 : tie.Need-slice-aggregate-put-bytes-3
-slice-aggregate-put-bytes-3 c = search needs
-
-put-bytes-requires-2 : tie.Need-put-bytes-requires-2
-put-bytes-requires-2 c κs = search needs
+put-trouble-requires : tie.Need-put-trouble-requires
+put-trouble-requires c κs = search needs
 
 array-share-prefix-line : tie.Need-array-share-prefix-line
 array-share-prefix-line c = search needs
@@ -36,11 +27,8 @@ pub tell-spec : {M : Type 1} → statement M
 tell-spec =
     tie.close
     (tie.spec
-    slice-aggregate-put-bytes
-    slice-aggregate-put-bytes-2
-    put-bytes-requires
-    slice-aggregate-put-bytes-3
-    put-bytes-requires-2
+    slice-aggregate-put-trouble
+    put-trouble-requires
     array-share-prefix-line
     slice-aggregate-fail
     fail-requires

@@ -1,6 +1,6 @@
 -- `range_main::turn` meets its contract. Assumes nothing.
 use mathlib.Core.Logic.{inl, inr}
-use Rattle.range_main.proofs.RunLaws.{brought-filled}
+use Rattle.program_io.proofs.CallLaws.{brought-filled}
 use borrow.Author.Needs.{needs}
 use Rattle.range_main.proofs.turn.Statement.{statement}
 use Rattle.range_main.proofs.turn.Tie as tie
@@ -32,7 +32,7 @@ after-read-requires : tie.Need-after-read-requires
 after-read-requires c κs =
     let b = c .before .before .before in
     let s = c .before .before .before .before .before .before .before .before .before .before .before .before .before .before .before in
-    (s .pre .0, search needs, s .pre .2, s .pre .3, brought-filled _ _ (search needs) (b .brought .result) (b .brought .ensures))
+    (s .pre .0, search needs, s .pre .2, s .pre .3, brought-filled _ _ _ (search needs) (b .brought .result) (b .brought .ensures))
 
 same-length-4 : tie.Need-same-length-4
 same-length-4 c = search needs

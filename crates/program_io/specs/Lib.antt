@@ -1,0 +1,2 @@
+-- Calls: what is made of the answers of the system.
+pub mod Calls

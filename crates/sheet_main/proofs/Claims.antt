@@ -1,0 +1,69 @@
+-- What is claimed of the sheet program. Assumes nothing.
+use mathlib.Core.Path.{_≡_}
+use mathlib.Core.Logic.{_↔_, _⊎_}
+use mathlib.Core.Bool.{Bool, true, false, not}
+use mathlib.Core.List.{List}
+use Prim.Native.Nat.{ℕ, _-_, _<_}
+use lib.Dec.{T}
+use lib.IntN.{ℤ}
+use lib.ListN.{take}
+use lib.Signed.{nonNeg}
+use Rattle.program_io.specs.declared.Got.the-variants.{Bytes}
+use Rattle.program_io.specs.Calls.{Brought}
+use Rattle.sheet_main.specs.declared.Run.{Run}
+use Rattle.sheet_main.specs.declared.End.{End}
+use Rattle.sheet_main.specs.declared.End.the-variants.{Ended, Full, Unread}
+use Rattle.sheet_main.specs.Runs.{Chain, gathered, isWhole, outputOf, noteOf, isRefused, statusOf}
+use Rattle.sheet_main.proofs.ChainLaws as chains
+use Rattle.sheet_main.proofs.ReplyLaws as replies
+use Rattle.sheet_main.proofs.StatusLaws as statuses
+
+-- ---- reading
+
+module _ {n : ℕ} {r : Run} {input : List ℕ} (c : Chain n r input) where
+  -- Each byte that a read brought is kept, in order, behind those before, and what is answered is nothing else.
+  pub all-kept : gathered c ≡ take (r .len) input
+  all-kept = chains.all-kept c
+
+  -- An input has ended only if a read that did not fail brought nothing, though there was room for a byte,
+  pub ended : r .end ≡ Ended → (r .len < 65537) × ((answer : ℤ) × Brought answer (65537 - r .len) (Bytes 0))
+  ended = chains.ended c
+
+  -- it is longer than a sheet may be only if 65,537 bytes are read,
+  pub full : r .end ≡ Full → r .len ≡ 65537
+  full = chains.full c
+
+  -- and it could not be read only if a call failed.
+  pub unread : r .end ≡ Unread → (answer : ℤ) × T (not (nonNeg answer))
+  unread = chains.unread c
+
+-- ---- a sheet that is longer than may be
+
+-- Nothing is answered otherwise because only the first 65,537 bytes are read.
+pub front-output : (sort : Bool) (t : List ℕ) → outputOf sort (take 65537 t) ≡ outputOf sort t
+front-output = replies.front-output
+
+pub front-told : (explain : Bool) (name t : List ℕ) → noteOf explain name (take 65537 t) ≡ noteOf explain name t
+front-told = replies.front-told
+
+pub front-refused : (t : List ℕ) → isRefused (take 65537 t) ≡ isRefused t
+front-refused = replies.front-refused
+
+-- ---- the status
+
+-- Status 0 exactly if the input was read as far as it matters, was not refused, and nothing is left to be written;
+module _ (refused : Bool) (left : ℕ) where
+  pub status-0 : (e : End) → (statusOf e refused left ≡ 0) ↔ ((isWhole e ≡ true) × (refused ≡ false) × (left ≡ 0))
+  status-0 = statuses.status-0 refused left
+
+  -- 1 exactly if it was refused, and so told;
+  pub status-1 : (e : End) → (statusOf e refused left ≡ 1) ↔ ((isWhole e ≡ true) × (refused ≡ true) × (left ≡ 0))
+  status-1 = statuses.status-1 refused left
+
+  -- and else 2.
+  pub status-else : (e : End) → (statusOf e refused left ≡ 0) ⊎ (statusOf e refused left ≡ 1) ⊎ (statusOf e refused left ≡ 2)
+  status-else = statuses.status-else refused left
+
+-- That is so where the input has ended, or is longer than a sheet may be, and not where a read failed.
+pub whole-exactly : (e : End) → (isWhole e ≡ true) ↔ ((e ≡ Ended) ⊎ (e ≡ Full))
+whole-exactly = statuses.whole-exactly

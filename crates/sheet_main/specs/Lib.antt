@@ -1,0 +1,2 @@
+-- Runs: what the sheet program does with an input.
+pub mod Runs

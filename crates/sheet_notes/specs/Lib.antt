@@ -1,0 +1,2 @@
+-- SheetNotes: what is told of a refused sheet.
+pub mod SheetNotes
