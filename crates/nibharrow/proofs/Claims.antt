@@ -1,7 +1,7 @@
 -- What is claimed of the C interface. Assumes nothing.
 use mathlib.Core.Path.{_≡_, refl, sym, ap, subst, _∙_}
 use mathlib.Core.Logic.{_↔_}
-use mathlib.Core.Bool.{Bool, not}
+use mathlib.Core.Bool.{Bool, true, false, not}
 use mathlib.Core.List.{List, [], _∷_, map, List·Permᴰ}
 use mathlib.Core.Option.{some, none, Option·getD}
 use Prim.Native.Nat.{ℕ, _+_, _*_, _/_, _≤_, _<_, min, max}
@@ -39,8 +39,9 @@ use Rattle.ranges.specs.Ranges.{rangeRecords, rangeAnswer, rangeLeaves, HoldsFe
 use Rattle.record_lists.specs.RecordLists.{familyWidth, mostRecords, listBlocks, listRefusal}
 use Rattle.list_answers.specs.ListAnswers.{gatheredList, uncoveredList, blocksAnswer, blocksLeave, HoldsFewestOf}
 use Rattle.list_answers.proofs.Claims as gather
+use Rattle.sheet_lines.specs.declared.Entry.{Entry}
 use Rattle.sheet_lines.specs.Lines.{lineEntry}
-use Rattle.sheet_answers.specs.Sheets.{sheetOf, sheetLines}
+use Rattle.sheet_answers.specs.Sheets.{sheetOf, sheetLines, sheetText, arranged}
 use Rattle.sheet_answers.specs.SheetAnswers.{respelled, sheetRefusal, respellAnswer, respellLeaves}
 use Rattle.sheet_answers.proofs.Claims as sheets
 use Rattle.words.specs.Words.{wordsText, wordsRefusal}
@@ -425,7 +426,7 @@ module _ (sorted : ℕ) (t old : List ℕ) where
         let (a, l) = sheets.again asked t old n good (not (eqb then 0)) buf in
         both a l ∙ ap (λ b. outcome (respellAnswer b t buf) (respellLeaves b t buf)) (interface.either-asked sorted then)
 
-  -- By which number the call is refused: 1, then 10, then 2, then 3, each exactly.
+  -- By which number the call is refused: 1, then 10, then 2,
   pub respell-numbers : let k = respellInto sorted t old .answers .number in
       ((k ≡ 1) ↔ (65536 < length t))
       × ((k ≡ 10) ↔ ((length t ≤ 65536) × (1024 < length (sheetLines t))))
@@ -433,8 +434,23 @@ module _ (sorted : ℕ) (t old : List ℕ) where
   unfolding respellInto
   respell-numbers = (sheets.number-1 asked t old, sheets.number-10 asked t old, sheets.number-2 asked t old)
 
--- Any number but 0 is as good as 1.
-pub sorted-by-any : (sorted : ℕ) (t old : List ℕ) → ¬ (sorted ≡ 0) → respellInto sorted t old ≡ respellInto 1 t old
+  -- then 3, each exactly.
+  pub respell-short : (respellInto sorted t old .answers .number ≡ 3)
+      ↔ ((length t ≤ 65536) × (length (sheetLines t) ≤ 1024) × (es : List Entry) × (sheetOf t ≡ some es) × (length old < length (sheetText (arranged asked es))))
+  unfolding respellInto
+  respell-short = sheets.number-3 asked t old
+
+  -- Room that always suffices, as the header has it.
+  pub respell-room : length t ≤ 65536 → length (sheetLines t) ≤ 1024 → (es : List Entry) → sheetOf t ≡ some es → 53248 ≤ length old → respellInto sorted t old .answers .number ≡ 0
+  unfolding respellInto
+  respell-room short few es is room = sheets.room-for-all asked t es is few short old room
+
+-- 0 leaves the lines in their order, and any other number sorts them.
+pub unsorted-by-0 : (t old : List ℕ) → respellInto 0 t old ≡ outcome (respellAnswer false t old) (respellLeaves false t old)
+unfolding respellInto
+unsorted-by-0 t old = refl
+
+pub sorted-by-any : (sorted : ℕ) (t old : List ℕ) → ¬ (sorted ≡ 0) → respellInto sorted t old ≡ outcome (respellAnswer true t old) (respellLeaves true t old)
 unfolding respellInto
 sorted-by-any sorted t old n = rw (ne-eqb sorted 0 n)
 

@@ -3,18 +3,19 @@ use mathlib.Core.Path.{_≡_, refl, sym, ap, _∙_, subst}
 use mathlib.Core.Logic.{_⊎_, inl, inr}
 use mathlib.Core.Bool.{Bool, true, false, cond}
 use mathlib.Core.List.{List, [], _∷_, _++_, map}
-use mathlib.Core.Option.{some, none}
-use Prim.Native.Nat.{ℕ, zero, suc, _+_, _*_, _^_, _≤_, _<_}
+use mathlib.Core.Option.{none}
+use Prim.Native.Nat.{ℕ, zero, suc, _≤_, _<_}
 use native.Mathlib.Omega.{arith}
 use borrow.Author.Tests.{ltb-true, ltb-false}
 use lib.Dec.{ltb}
-use lib.ListN.{length, getD, take, drop, length-map}
+use lib.ListN.{length, getD, take, length-map}
 use lib.Seq.{getD-take, length-take-le}
 use Rattle.address.specs.declared.Refusal.the-variants.{Malformed, TooMany}
 use Rattle.address.specs.Answers.{refuses, refusalNumber, writeAnswer, writeLeaves}
 use Rattle.output.specs.Placing.{Puts}
 use Rattle.output.proofs.PlacingLaws.{puts-then, puts-whole}
 use Rattle.sort.specs.Order.{key, Before, Ordered, Sorted, Sorting}
+use Rattle.sort.proofs.Claims.{room-true}
 use Rattle.stable_sort.specs.Stable.{sortBy}
 use Rattle.stable_sort.specs.Indices.{upTo, Once, InOrder}
 use Rattle.stable_sort.proofs.IndexLaws.{upTo-size, upTo-at, order-sorts}
@@ -73,19 +74,15 @@ module _ {hi lo families readings : List ℕ} {n : ℕ} (w : Writable hi lo fami
 
     -- there is room
     done : Sorted (take n hi) (take n lo) old order
-    done = go answer refl
-      where
-        go : (b : Bool) → answer ≡ b → Sorted (take n hi) (take n lo) old order
-        go true e = s .done e
-        go false e =
-            let m = w .few in
-            let h = halves in
-            absurd (s .refused e .0 (record { paired = h .1 ∙ sym (h .0); few = omega (arith, h .0); placed = omega (arith, h .0) }))
+    done =
+        let m = w .few in
+        let h = halves in
+        s .done (room-true answer s (record { paired = h .1 ∙ sym (h .0); few = omega (arith, h .0); placed = omega (arith, h .0) }))
 
     ordered : Ordered (take n hi) (take n lo) n order
     ordered = subst (λ (k : ℕ). Ordered (take n hi) (take n lo) k order) (halves .0) (done .order)
 
-    pub order-long : n ≤ length order
+    order-long : n ≤ length order
     order-long = omega (arith, w .few, done .size)
 
     long : length (take n order) ≡ n
@@ -107,13 +104,13 @@ module _ {hi lo families readings : List ℕ} {n : ℕ} (w : Writable hi lo fami
     abbrev es : List Entry
     es = rowsOf hi lo families readings n
 
-    abbrev none-there : Entry
-    none-there = rowEntry hi lo families readings n
+    abbrev noEntry : Entry
+    noEntry = rowEntry hi lo families readings n
 
-    number-at : (x : ℕ) → x < n → key (take n hi) (take n lo) x ≡ entryNumber (getD es x none-there)
+    number-at : (x : ℕ) → x < n → key (take n hi) (take n lo) x ≡ entryNumber (getD es x noEntry)
     unfolding key
     number-at x h =
-        rw (getD-take n hi x 0 h, getD-take n lo x 0 h) (w .keyed x h) ∙ ap entryNumber (sym (row-is (rowEntry hi lo families readings) none-there n x h))
+        rw (getD-take n hi x 0 h, getD-take n lo x 0 h) (w .keyed x h) ∙ ap entryNumber (sym (row-is (rowEntry hi lo families readings) noEntry n x h))
 
     once : Once n (take n order)
     once =
@@ -125,14 +122,14 @@ module _ {hi lo families readings : List ℕ} {n : ℕ} (w : Writable hi lo fami
           once = λ p q g h e. o .once p q g h (sym (at p g) ∙ e ∙ at q h);
         }
 
-    in-order : InOrder (λ (x : ℕ). entryNumber (getD es x none-there)) (length es) (take n order)
+    in-order : InOrder (λ (x : ℕ). entryNumber (getD es x noEntry)) (length es) (take n order)
     in-order =
-        subst (λ (k : ℕ). InOrder (λ (x : ℕ). entryNumber (getD es x none-there)) k (take n order)) (sym (rows-size (rowEntry hi lo families readings) none-there n))
+        subst (λ (k : ℕ). InOrder (λ (x : ℕ). entryNumber (getD es x noEntry)) k (take n order)) (sym (rows-size (rowEntry hi lo families readings) noEntry n))
         (record { places = once; rising = λ p q g h. turn p q g h (ordered .rising p q g h) })
       where
         turn : (p q : ℕ) → p < q → q < n → Before (take n hi) (take n lo) (getD order p 0) (getD order q 0)
-            → (entryNumber (getD es (getD (take n order) p 0) none-there) < entryNumber (getD es (getD (take n order) q 0) none-there))
-            ⊎ ((entryNumber (getD es (getD (take n order) p 0) none-there) ≡ entryNumber (getD es (getD (take n order) q 0) none-there)) × (getD (take n order) p 0 < getD (take n order) q 0))
+            → (entryNumber (getD es (getD (take n order) p 0) noEntry) < entryNumber (getD es (getD (take n order) q 0) noEntry))
+            ⊎ ((entryNumber (getD es (getD (take n order) p 0) noEntry) ≡ entryNumber (getD es (getD (take n order) q 0) noEntry)) × (getD (take n order) p 0 < getD (take n order) q 0))
         turn p q g h b =
             let l : p < n = omega arith in
             rw (at p l, at q h, ← number-at (getD order p 0) (ordered .inside p l), ← number-at (getD order q 0) (ordered .inside q h)) b
@@ -143,7 +140,7 @@ module _ {hi lo families readings : List ℕ} {n : ℕ} (w : Writable hi lo fami
     unfolding askedFor
     put-families {a} {b} {c} {i} {r} p q =
         let g = rowEntry hi lo families readings in
-        let is : map g (take n order) ≡ sortBy entryNumber es = rows-picked g none-there n (take n order) inside ∙ order-sorts entryNumber none-there es (take n order) in-order in
+        let is : map g (take n order) ≡ sortBy entryNumber es = rows-picked g noEntry n (take n order) inside ∙ order-sorts entryNumber noEntry es (take n order) in-order in
         let text : sheetText (ofFamily 4 (map g (take n order))) ++ sheetText (ofFamily 6 (map g (take n order))) ≡ sheetText (sorted es) =
         sym (text-append (ofFamily 4 (map g (take n order))) (ofFamily 6 (map g (take n order)))) ∙ ap (λ l. sheetText (byFamily l)) is ∙ ap sheetText (sorted-families es (w .valid)) in
         subst (Puts a c 0 r) text (puts-then p q)
@@ -155,7 +152,7 @@ module _ {hi lo families readings : List ℕ} {n : ℕ} (w : Writable hi lo fami
   put-numbered {a} {c} {r} order e p = subst (λ l. Puts a c 0 r (sheetText (map (rowEntry hi lo families readings) l))) e p
 
   -- the text of all rows fits 53,248 bytes
-  pub text-whole : (sort : Bool) {old new : List ℕ} {r : ℕ} → length old ≡ 53248 → Puts old new 0 r (sheetText (arranged sort (rowsOf hi lo families readings n)))
+  pub text-whole : (sort : Bool) {old new : List ℕ} {r : ℕ} → 53248 ≤ length old → Puts old new 0 r (sheetText (arranged sort (rowsOf hi lo families readings n)))
       → take r new ≡ sheetText (arranged sort (rowsOf hi lo families readings n))
   text-whole sort {old} {new} {r} room p =
       let fs = arranged sort (rowsOf hi lo families readings n) in
@@ -176,7 +173,7 @@ module _ (t hi lo families readings : List ℕ) (short : length t ≤ mostBytes)
       go : (b : Bool) → ltb mostLines (length (sheetLines t)) ≡ b → (sheetOf t ≡ none) ⊎ (mostLines < length (sheetLines t))
           → sheetRefusal t ≡ refusalNumber (cond b TooMany Malformed)
       go true q f = too-many t short (ltb-true mostLines (length (sheetLines t)) q)
-      go false q (inl none-there) = malformed t short (ltb-false mostLines (length (sheetLines t)) q) none-there
+      go false q (inl gone) = malformed t short (ltb-false mostLines (length (sheetLines t)) q) gone
       go false q (inr many) = absurd (omega (arith, ltb-false mostLines (length (sheetLines t)) q))
 
   -- one that was

@@ -18,13 +18,14 @@ use Rattle.notation.proofs.SliceLaws.{tail, to-end-less}
 use Rattle.address.specs.Addresses.{number}
 use Rattle.stable_sort.specs.Indices.{upTo}
 use Rattle.sheet_lines.specs.declared.Entry.{Entry}
-use Rattle.sheet_lines.specs.Lines.{lineEntry, IsEntry}
-use Rattle.sheet_lines.proofs.EntryLaws.{line-is}
+use Rattle.sheet_lines.specs.declared.LineReading.the-variants.{Line}
+use Rattle.sheet_lines.specs.Lines.{lineEntry, asLine}
+use Rattle.sheet_lines.proofs.EntryLaws.{line-is, line-says}
 use Rattle.sheet_answers.specs.Sheets.{before, sheetOf, sheetLines}
 use Rattle.sheet_answers.specs.SheetAnswers.{mostLines}
 use Rattle.sheet_answers.proofs.LineLaws.{found-entries, found-lines, last-entries, last-lines, no-entries, no-lines}
 use Rattle.sheet.specs.Inner.{rowEntry, rowsOf, Keyed, HasRow, Stored, finishedEntry, ReadsRows}
-use Rattle.sheet.specs.declared.Rows.the-variants.{Count, NoRows}
+use Rattle.sheet.specs.declared.Rows.the-variants.{Count}
 use Rattle.sheet.proofs.RowLaws.{other-row, this-row}
 
 none-left : (t : List ℕ) → length t ≤ 0 → [] ≡ t
@@ -68,8 +69,8 @@ module _ {t rest : List ℕ} {count : ℕ} (c : Counted t rest count) where
 -- ---- the lines read
 
 -- a line that is read is finished
-pub finished-says : (t : List ℕ) (i : ℕ) (e : Entry) → finishedEntry t i ≡ some e → (i < length t) × (lineEntry (take i t) ≡ some e)
-finished-says t i e h = go (ltb i (length t)) refl h
+pub finished-says : (t : List ℕ) (i : ℕ) (e : Entry) → Line e ≡ asLine (finishedEntry t i) → (i < length t) × (lineEntry (take i t) ≡ some e)
+finished-says t i e h = go (ltb i (length t)) refl (line-says (finishedEntry t i) e h)
   where
     go : (b : Bool) → ltb i (length t) ≡ b → cond b (lineEntry (take i t)) none ≡ some e → (i < length t) × (lineEntry (take i t) ≡ some e)
     go true q k = (ltb-true i (length t) q, k)
@@ -80,13 +81,13 @@ abbrev ahead : List Entry → Option (List Entry) → Option (List Entry)
 ahead es o = Option·map (λ fs. es ++ fs) o
 
 -- the first n rows have the entries of the lines before the rest
-pub record Reading (t rest hi lo families readings : List ℕ) (n : ℕ) : Type 0 where
+pub record RowsRead (t rest hi lo families readings : List ℕ) (n : ℕ) : Type 0 where
   pub counted : Counted t rest n
   pub few : n ≤ mostLines
   pub entries : sheetOf t ≡ ahead (rowsOf hi lo families readings n) (sheetOf rest)
   pub keyed : Keyed hi lo families readings n
 
-pub read-start : (t hi lo families readings : List ℕ) → Reading t t hi lo families readings 0
+pub read-start : (t hi lo families readings : List ℕ) → RowsRead t t hi lo families readings 0
 unfolding upTo
 read-start t hi lo families readings =
     record { counted = count-start t; few = omega arith; entries = same (sheetOf t); keyed = λ i h. absurd (omega arith) }
@@ -116,7 +117,7 @@ ahead-more : (es : List Entry) (e : Entry) (o : Option (List Entry)) → ahead e
 ahead-more es e none = refl
 ahead-more es e (some fs) = ap some (sym (append-assoc es (e ∷ []) fs))
 
-module _ {t rest hi lo families readings : List ℕ} {n : ℕ} (r : Reading t rest hi lo families readings n) where
+module _ {t rest hi lo families readings : List ℕ} {n : ℕ} (r : RowsRead t rest hi lo families readings n) where
   abbrev Fails : Type 0
   Fails = (sheetOf t ≡ none) ⊎ (mostLines < length (sheetLines t))
 
@@ -146,7 +147,7 @@ module _ {t rest hi lo families readings : List ℕ} {n : ℕ} (r : Reading t re
     module _ (h : i < length rest) where
       -- a line more
       pub read-on : (e : Entry) → lineEntry (take i rest) ≡ some e → n < mostLines → HasRow hi lo families readings n → {hi' lo' families' readings' : List ℕ}
-          → Stored hi lo families readings n e hi' lo' families' readings' → Reading t (tail (i + 1) rest) hi' lo' families' readings' (n + 1)
+          → Stored hi lo families readings n e hi' lo' families' readings' → RowsRead t (tail (i + 1) rest) hi' lo' families' readings' (n + 1)
       read-on e is room row {hi'} {lo'} {families'} {readings'} s =
           let this = this-row s row (line-is (take i rest) e is) in
           let other : (j : ℕ) → j < n → ¬ (j ≡ n) = λ j l z. omega arith in

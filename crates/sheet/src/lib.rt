@@ -10,7 +10,7 @@ ghost use Rattle.stable_sort.specs.Indices.{upTo};
 ghost use Rattle.sheet_lines.specs.Lines.{asLine};
 ghost use Rattle.sheet_answers.specs.Sheets.{sheetLines, sheetText, arranged};
 ghost use Rattle.sheet_answers.specs.SheetAnswers.{mostLines, respellAnswer, respellLeaves};
-ghost use Rattle.sheet.specs.Inner.{rowAddress, readingEntry, rowEntry, rowsOf, Room, HasRow, Keyed, Stored, finishedEntry, ReadsRows, faultOf, askedFor, Picks, Writable};
+ghost use Rattle.sheet.specs.Inner.{rowAddress, readingEntry, rowEntry, rowsOf, Room, HasRow, Stored, finishedEntry, ReadsRows, faultOf, askedFor, Picks, Writable};
 use address::Address;
 use address::Refusal;
 use address::Writing;
@@ -99,7 +99,8 @@ fn count_lines(sheet: &[u8]) -> usize
     count
 }
 
-// Why a sheet that is not too long could not be read: 10 stands before 2, so that the lines are counted only where one of both is given.
+// Why a sheet that is not too long could not be read. Reading stops at the first malformed line, and 10 stands before 2: so the lines are counted
+// here, and only here.
 fn fault(sheet: &[u8]) -> Refusal
     ensures { λ r. ⌜ r ≡ faultOf (now (sheet .entry)) ⌝ }
 {

@@ -1,7 +1,7 @@
 -- Entries as they stand or sorted: the same entries, each once; sorting twice. Assumes nothing.
 use mathlib.Core.Path.{_≡_, refl, sym, ap, subst, _∙_}
 use mathlib.Core.Bool.{Bool, true, false, cond}
-use mathlib.Core.List.{List, [], map, List·Memᴰ, List·Memᴰ·head, List·Memᴰ·tail, List·Memᴰ·cases-cons, List·Permᴰ, List·Permᴰ·nil, List·Permᴰ·cons, List·Permᴰ·swap, List·Permᴰ·trans, Permᴰ·refl}
+use mathlib.Core.List.{List, [], List·Memᴰ, List·Memᴰ·head, List·Memᴰ·tail, List·Memᴰ·cases-cons, List·Permᴰ, List·Permᴰ·nil, List·Permᴰ·cons, List·Permᴰ·swap, List·Permᴰ·trans, Permᴰ·refl}
 use mathlib.Core.Logic.{⊎-elim}
 use Prim.Native.Nat.{suc}
 use lib.ListN.{length}
@@ -19,12 +19,6 @@ module _ {A : Type 0} where
   perm-length (List·Permᴰ·cons e p) = ap suc (perm-length p)
   perm-length (List·Permᴰ·swap e g) = refl
   perm-length (List·Permᴰ·trans p q) = perm-length p ∙ perm-length q
-
-  pub perm-map : {B : Type 0} (f : A → B) {xs ys : List A} → List·Permᴰ xs ys → List·Permᴰ (map f xs) (map f ys)
-  perm-map f List·Permᴰ·nil = List·Permᴰ·nil
-  perm-map f (List·Permᴰ·cons e p) = List·Permᴰ·cons (ap f e) (perm-map f p)
-  perm-map f (List·Permᴰ·swap e g) = List·Permᴰ·swap (ap f e) (ap f g)
-  perm-map f (List·Permᴰ·trans p q) = List·Permᴰ·trans (perm-map f p) (perm-map f q)
 
   -- what stands in the second list stands in the first
   pub perm-from : {a : A} {xs ys : List A} → List·Permᴰ xs ys → List·Memᴰ a ys → List·Memᴰ a xs

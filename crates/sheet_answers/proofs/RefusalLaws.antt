@@ -60,12 +60,12 @@ respelled-some sort t es e = rw e
 -- ---- the call
 
 -- the numbers of the call, each with its conditions
-pub data Outcome (sort : Bool) (t old : List ℕ) : ℕ → Type 0 where
-  long : 65536 < length t → Outcome sort t old 1
-  many : length t ≤ 65536 → 1024 < length (sheetLines t) → Outcome sort t old 10
-  bad : length t ≤ 65536 → length (sheetLines t) ≤ 1024 → sheetOf t ≡ none → Outcome sort t old 2
-  no-room : length t ≤ 65536 → length (sheetLines t) ≤ 1024 → (es : List Entry) → sheetOf t ≡ some es → length old < length (sheetText (arranged sort es)) → Outcome sort t old 3
-  good : length t ≤ 65536 → length (sheetLines t) ≤ 1024 → (es : List Entry) → sheetOf t ≡ some es → length (sheetText (arranged sort es)) ≤ length old → Outcome sort t old 0
+pub data Outcomes (sort : Bool) (t old : List ℕ) : ℕ → Type 0 where
+  long : 65536 < length t → Outcomes sort t old 1
+  many : length t ≤ 65536 → 1024 < length (sheetLines t) → Outcomes sort t old 10
+  bad : length t ≤ 65536 → length (sheetLines t) ≤ 1024 → sheetOf t ≡ none → Outcomes sort t old 2
+  no-room : length t ≤ 65536 → length (sheetLines t) ≤ 1024 → (es : List Entry) → sheetOf t ≡ some es → length old < length (sheetText (arranged sort es)) → Outcomes sort t old 3
+  good : length t ≤ 65536 → length (sheetLines t) ≤ 1024 → (es : List Entry) → sheetOf t ≡ some es → length (sheetText (arranged sort es)) ≤ length old → Outcomes sort t old 0
 
 module _ (sort : Bool) (t old : List ℕ) where
   abbrev answered : ℕ
@@ -91,17 +91,17 @@ module _ (sort : Bool) (t old : List ℕ) where
   room : (es : List Entry) → sheetOf t ≡ some es → sheetRefusal t ≡ 0 → answered ≡ writeRefusal 0 (sheetText (arranged sort es)) old
   room es is e = number-is ∙ ap (λ m. writeRefusal m (respelled sort t) old) e ∙ ap (λ u. writeRefusal 0 u old) (respelled-some sort t es is)
 
-  pub outcome-number : {n : ℕ} → Outcome sort t old n → respellAnswer sort t old .number ≡ n
+  pub outcome-number : {n : ℕ} → Outcomes sort t old n → respellAnswer sort t old .number ≡ n
   outcome-number (long h) = own 1 (omega arith) (too-long t h)
   outcome-number (many s h) = own 10 (omega arith) (too-many t s h)
   outcome-number (bad s f h) = own 2 (omega arith) (malformed t s f h)
   outcome-number (no-room s f es is h) = room es is (not-refused t s f es is) ∙ room-less (sheetText (arranged sort es)) old h
   outcome-number (good s f es is h) = room es is (not-refused t s f es is) ∙ room-enough (sheetText (arranged sort es)) old h
 
-  of : {n : ℕ} → Outcome sort t old n → Outcome sort t old (respellAnswer sort t old .number)
-  of o = subst (Outcome sort t old) (sym (outcome-number o)) o
+  of : {n : ℕ} → Outcomes sort t old n → Outcomes sort t old (respellAnswer sort t old .number)
+  of o = subst (Outcomes sort t old) (sym (outcome-number o)) o
 
-  pub outcome : Outcome sort t old (respellAnswer sort t old .number)
+  pub outcome : Outcomes sort t old (respellAnswer sort t old .number)
   outcome = elim (decLt 65536 (length t)) [
     | yes h ↦ of (long h)
     | no s ↦ elim (decLt 1024 (length (sheetLines t))) [
@@ -110,7 +110,7 @@ module _ (sort : Bool) (t old : List ℕ) where
     ]
   ]
     where
-      go : length t ≤ 65536 → length (sheetLines t) ≤ 1024 → (o : Option (List Entry)) → sheetOf t ≡ o → Outcome sort t old (respellAnswer sort t old .number)
+      go : length t ≤ 65536 → length (sheetLines t) ≤ 1024 → (o : Option (List Entry)) → sheetOf t ≡ o → Outcomes sort t old (respellAnswer sort t old .number)
       go s f none e = of (bad s f e)
       go s f (some es) e = elim (decLe (length (sheetText (arranged sort es))) (length old)) [
         | yes h ↦ of (good s f es e h)
@@ -122,7 +122,7 @@ module _ (sort : Bool) (t old : List ℕ) where
   pub one-exactly : (answered ≡ 1) ↔ (65536 < length t)
   one-exactly = (λ e. go outcome e, λ h. outcome-number (long h))
     where
-      go : {n : ℕ} → Outcome sort t old n → n ≡ 1 → 65536 < length t
+      go : {n : ℕ} → Outcomes sort t old n → n ≡ 1 → 65536 < length t
       go (long h) e = h
       go (many s h) e = absurd (omega arith)
       go (bad s f h) e = absurd (omega arith)
@@ -132,7 +132,7 @@ module _ (sort : Bool) (t old : List ℕ) where
   pub ten-exactly : (answered ≡ 10) ↔ ((length t ≤ 65536) × (1024 < length (sheetLines t)))
   ten-exactly = (λ e. go outcome e, λ h. outcome-number (many (h .0) (h .1)))
     where
-      go : {n : ℕ} → Outcome sort t old n → n ≡ 10 → (length t ≤ 65536) × (1024 < length (sheetLines t))
+      go : {n : ℕ} → Outcomes sort t old n → n ≡ 10 → (length t ≤ 65536) × (1024 < length (sheetLines t))
       go (long h) e = absurd (omega arith)
       go (many s h) e = (s, h)
       go (bad s f h) e = absurd (omega arith)
@@ -142,7 +142,7 @@ module _ (sort : Bool) (t old : List ℕ) where
   pub two-exactly : (answered ≡ 2) ↔ ((length t ≤ 65536) × (length (sheetLines t) ≤ 1024) × (sheetOf t ≡ none))
   two-exactly = (λ e. go outcome e, λ h. outcome-number (bad (h .0) (h .1) (h .2)))
     where
-      go : {n : ℕ} → Outcome sort t old n → n ≡ 2 → (length t ≤ 65536) × (length (sheetLines t) ≤ 1024) × (sheetOf t ≡ none)
+      go : {n : ℕ} → Outcomes sort t old n → n ≡ 2 → (length t ≤ 65536) × (length (sheetLines t) ≤ 1024) × (sheetOf t ≡ none)
       go (long h) e = absurd (omega arith)
       go (many s h) e = absurd (omega arith)
       go (bad s f h) e = (s, f, h)
@@ -153,7 +153,7 @@ module _ (sort : Bool) (t old : List ℕ) where
       ↔ ((length t ≤ 65536) × (length (sheetLines t) ≤ 1024) × (es : List Entry) × (sheetOf t ≡ some es) × (length old < length (sheetText (arranged sort es))))
   three-exactly = (λ e. go outcome e, λ h. outcome-number (no-room (h .0) (h .1) (h .2) (h .3) (h .4)))
     where
-      go : {n : ℕ} → Outcome sort t old n → n ≡ 3
+      go : {n : ℕ} → Outcomes sort t old n → n ≡ 3
           → (length t ≤ 65536) × (length (sheetLines t) ≤ 1024) × (es : List Entry) × (sheetOf t ≡ some es) × (length old < length (sheetText (arranged sort es)))
       go (long h) e = absurd (omega arith)
       go (many s h) e = absurd (omega arith)
@@ -165,7 +165,7 @@ module _ (sort : Bool) (t old : List ℕ) where
       ↔ ((length t ≤ 65536) × (length (sheetLines t) ≤ 1024) × (es : List Entry) × (sheetOf t ≡ some es) × (length (sheetText (arranged sort es)) ≤ length old))
   zero-exactly = (λ e. go outcome e, λ h. outcome-number (good (h .0) (h .1) (h .2) (h .3) (h .4)))
     where
-      go : {n : ℕ} → Outcome sort t old n → n ≡ 0
+      go : {n : ℕ} → Outcomes sort t old n → n ≡ 0
           → (length t ≤ 65536) × (length (sheetLines t) ≤ 1024) × (es : List Entry) × (sheetOf t ≡ some es) × (length (sheetText (arranged sort es)) ≤ length old)
       go (long h) e = absurd (omega arith)
       go (many s h) e = absurd (omega arith)
@@ -177,7 +177,7 @@ module _ (sort : Bool) (t old : List ℕ) where
   pub five-numbers : (answered ≡ 0) ⊎ (answered ≡ 1) ⊎ (answered ≡ 2) ⊎ (answered ≡ 3) ⊎ (answered ≡ 10)
   five-numbers = go outcome
     where
-      go : {n : ℕ} → Outcome sort t old n → (n ≡ 0) ⊎ (n ≡ 1) ⊎ (n ≡ 2) ⊎ (n ≡ 3) ⊎ (n ≡ 10)
+      go : {n : ℕ} → Outcomes sort t old n → (n ≡ 0) ⊎ (n ≡ 1) ⊎ (n ≡ 2) ⊎ (n ≡ 3) ⊎ (n ≡ 10)
       go (long h) = inr (inl refl)
       go (many s h) = inr (inr (inr (inr refl)))
       go (bad s f h) = inr (inr (inl refl))

@@ -1,7 +1,7 @@
 -- What a good call has written: what its lines hold, how long it is, and a second call on it. Assumes nothing.
 use mathlib.Core.Path.{_≡_, sym, ap, ap₂, subst, subst₂, _∙_}
 use mathlib.Core.Bool.{Bool, true, cond}
-use mathlib.Core.List.{List, [], _++_, map, List·Memᴰ, List·Permᴰ, Memᴰ·map, Memᴰ·of-map}
+use mathlib.Core.List.{List, [], _++_, map, List·Memᴰ, List·Permᴰ, Memᴰ·map, Memᴰ·of-map, Permᴰ·map}
 use mathlib.Core.Option.{some}
 use Prim.Native.Nat.{ℕ, _*_, _≤_}
 use native.Mathlib.Omega.{arith}
@@ -14,7 +14,7 @@ use Rattle.sheet_answers.specs.Sheets.{sheetOf, sheetLines, sheetText, A
 use Rattle.sheet_answers.specs.SheetAnswers.{respelled, sheetRefusal, respellAnswer, respellLeaves}
 use Rattle.sheet_answers.proofs.LineLaws.{no-entries, no-lines}
 use Rattle.sheet_answers.proofs.SheetLaws.{sheet-read, read-sheet, read-lines, read-all, read-spelled, text-read, text-lines, text-most, text-spelled}
-use Rattle.sheet_answers.proofs.ArrangedLaws.{perm-length, perm-map, perm-from, arranged-perm, arranged-all, arranged-twice, arranged-none}
+use Rattle.sheet_answers.proofs.ArrangedLaws.{perm-length, perm-from, arranged-perm, arranged-all, arranged-twice, arranged-none}
 use Rattle.sheet_answers.proofs.RefusalLaws.{respelled-some, not-refused, zero-exactly}
 
 -- ---- a sheet that is read
@@ -70,7 +70,7 @@ from-line t u es fs p q perm line m =
 -- and the lines of both hold the same, each once
 pub same-lines : (t u : List ℕ) (es fs : List Entry) → sheetOf t ≡ some es → sheetOf u ≡ some fs → List·Permᴰ es fs
     → List·Permᴰ (map lineEntry (sheetLines t)) (map lineEntry (sheetLines u))
-same-lines t u es fs p q perm = subst₂ List·Permᴰ (sym (lines-hold t es p)) (sym (lines-hold u fs q)) (perm-map some perm)
+same-lines t u es fs p q perm = subst₂ List·Permᴰ (sym (lines-hold t es p)) (sym (lines-hold u fs q)) (Permᴰ·map some perm)
 
 -- ---- a good answer
 

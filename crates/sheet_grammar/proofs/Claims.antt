@@ -1,14 +1,16 @@
 -- What is claimed of the acidity sheet (02, Req 09) by its inductive form: exactly its sheets are read, respelled and refused, and what is written is
 -- the one text of its form. Assumes nothing.
 use mathlib.Core.Path.{_≡_, sym, subst, subst₂, _∙_}
-use mathlib.Core.Logic.{_↔_}
+use mathlib.Core.Logic.{_⊎_, _↔_}
 use mathlib.Core.Bool.{Bool, true}
-use mathlib.Core.List.{List, [], _∷_, _++_}
+use mathlib.Core.List.{List, [], _∷_, _++_, List·Permᴰ}
 use mathlib.Core.Option.{some, none}
-use Prim.Native.Nat.{ℕ, _≤_}
+use Prim.Native.Nat.{ℕ, _+_, _*_, _^_, _≤_}
 use lib.ListN.{length, drop, replicate}
 use Rattle.notation.proofs.OptionLaws.{impossible, nothing-there}
 use Rattle.address.specs.declared.Address.{Address}
+use Rattle.address.specs.declared.Address.the-variants.{V6}
+use Rattle.address.specs.Addresses.{IsAddress}
 use Rattle.address.specs.declared.Refusal.{Refusal}
 use Rattle.address.specs.declared.Writing.{Writing}
 use Rattle.address.specs.Answers.{Answer, gives, refuses, refusalNumber, writeAnswer, writingAnswer}
@@ -21,10 +23,12 @@ use Rattle.sheet_answers.specs.Sheets.{sheetOf, sheetLines, sheetText, AllEntri
 use Rattle.sheet_answers.specs.SheetAnswers.{respellAnswer, respellLeaves}
 use Rattle.sheet_answers.specs.Specimens.{ended}
 use Rattle.sheet_answers.proofs.Claims as answers
-use Rattle.sheet_grammar.specs.SheetForm.{plain-number, Line, Sheet, Lines, WrittenLine, WrittenSheet, Arranged, SheetCall}
+use Rattle.sheet_grammar.specs.SheetForm.{plain-number, Line, Sheet, Lines, WrittenLine, WrittenSheet, not-after, used-in-turn, Arranged, SheetCall}
 use Rattle.sheet_grammar.proofs.NumberFormLaws as numbers
 use Rattle.sheet_grammar.proofs.LineFormLaws as lines
 use Rattle.sheet_grammar.proofs.SheetFormLaws as form
+use Rattle.sheet_grammar.proofs.AddressOrderLaws as addresses
+use Rattle.sheet_grammar.proofs.ArrangedFormLaws as order
 use Rattle.sheet_grammar.proofs.SheetCallLaws as call
 
 -- ---- what is read
@@ -91,9 +95,30 @@ one-text = form.one-text
 pub one-numeral : {t u : List ℕ} {n : ℕ} → plain-number t n → plain-number u n → t ≡ u
 one-numeral = numbers.one-spelling
 
--- "on request sorts": the entries have one order by the request.
-pub order-exactly : (sort : Bool) (es fs : List Entry) → (arranged sort es ≡ fs) ↔ Arranged sort es fs
-order-exactly sort es fs = (λ e. subst (Arranged sort es) e (form.arranged-has sort es), λ a. sym (form.arranged-only a))
+-- ---- the order
+
+-- "on request sorts": entries that keep the limits have one order by the request.
+pub order-exactly : (sort : Bool) (es fs : List Entry) → AllEntries es → (arranged sort es ≡ fs) ↔ Arranged sort es fs
+order-exactly sort es fs all = (λ e. subst (Arranged sort es) e (order.arranged-has sort es all), λ a. sym (order.arranged-only a all))
+
+-- "each input line used exactly once"
+pub used-exactly-once : {es fs : List Entry} → used-in-turn es fs → List·Permᴰ es fs
+used-exactly-once = order.used-perm
+
+-- The order of addresses is one: of two addresses one is not after the other, both only if they are equal, and what is not after an address is not
+-- after those that follow it.
+pub total : (a b : Address) → not-after a b ⊎ not-after b a
+total = addresses.total
+
+pub antisymmetric : {a b : Address} → not-after a b → not-after b a → a ≡ b
+antisymmetric = addresses.antisymmetric
+
+pub transitive : {a b c : Address} → not-after a b → not-after b c → not-after a c
+transitive = addresses.transitive
+
+-- Addresses of IPv6 are "ordered as numbers of [...] 128 bits" (01).
+pub as-numbers : (hi lo i k : ℕ) → IsAddress (V6 hi lo) → IsAddress (V6 i k) → not-after (V6 hi lo) (V6 i k) ↔ (hi * 2 ^ 64 + lo ≤ i * 2 ^ 64 + k)
+as-numbers = addresses.as-numbers
 
 -- ---- the call
 

@@ -23,12 +23,12 @@ use Rattle.sheet_grammar.specs.SheetForm.{plain-number, no-leading-0, on
 
 -- ---- digits without a leading zero
 
-pub plain-leading : {t : List ℕ} {n : ℕ} → plain-number t n → leadingZero t ≡ false
+plain-leading : {t : List ℕ} {n : ℕ} → plain-number t n → leadingZero t ≡ false
 unfolding leadingZero
 plain-leading (no-leading-0 {c} {t} h g) = first-not-0 c t (omega arith)
 plain-leading only-0 = refl
 
-pub plain-digits : {t : List ℕ} {n : ℕ} → plain-number t n → digit-string 10 DIGIT t n
+plain-digits : {t : List ℕ} {n : ℕ} → plain-number t n → digit-string 10 DIGIT t n
 plain-digits (no-leading-0 h g) = g
 plain-digits only-0 = one (byte 48 (omega arith) (omega arith))
 
@@ -64,7 +64,7 @@ one-value p q = same-value (sym (digits-read same-10 (plain-digits p)) ∙ digit
 -- ---- written
 
 -- a number has one spelling of at most k digits
-pub plain-spelling : (k : ℕ) {t : List ℕ} {n : ℕ} → plain-number t n → length t ≤ k → numeral 10 k n ≡ t
+plain-spelling : (k : ℕ) {t : List ℕ} {n : ℕ} → plain-number t n → length t ≤ k → numeral 10 k n ≡ t
 plain-spelling k {t} {n} p l =
     let g = plain-digits p in
     numeral-spelling 10 k (lit≤ tt) (lit< tt) t n (digits-read same-10 g) l (plain-leading p) (decimal-lower t (digits-all same-10 g .all))

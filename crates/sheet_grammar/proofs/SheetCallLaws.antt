@@ -20,6 +20,7 @@ use Rattle.sheet_answers.proofs.RefusalLaws as refusals
 use Rattle.sheet_answers.proofs.RespellLaws as respell
 use Rattle.sheet_grammar.specs.SheetForm.{Sheet, Lines, WrittenSheet, Arranged, SheetCall, too-long, too-many, malformed, no-room, sheet-written}
 use Rattle.sheet_grammar.proofs.SheetFormLaws as form
+use Rattle.sheet_grammar.proofs.ArrangedFormLaws as order
 
 module _ (sort : Bool) (t old : List ℕ) where
   abbrev answered : Answer ℕ
@@ -34,8 +35,8 @@ module _ (sort : Bool) (t old : List ℕ) where
   -- the text that is written of a sheet is the one that is to be written
   text-of : {es fs : List Entry} {u : List ℕ} → Sheet t es → Arranged sort es fs → WrittenSheet fs u → sheetText (arranged sort es) ≡ u
   text-of {es} {fs} {u} s a w =
-      let all = arranged-all sort es (respell.entries-all t es (form.sheet-reads s)) in
-      form.one-text (form.sheet-written (arranged sort es) all) (subst (λ gs. WrittenSheet gs u) (form.arranged-only a) w)
+      let all = respell.entries-all t es (form.sheet-reads s) in
+      form.one-text (form.sheet-written (arranged sort es) (arranged-all sort es all)) (subst (λ gs. WrittenSheet gs u) (order.arranged-only a all) w)
 
   -- a sheet that is not refused: the room decides
   as-written : {k : ℕ} {es fs : List Entry} {u : List ℕ} → length t ≤ 65536 → Lines t k → k ≤ 1024 → Sheet t es → Arranged sort es fs → WrittenSheet fs u
@@ -70,12 +71,12 @@ module _ (sort : Bool) (t old : List ℕ) where
       written : (es : List Entry) → sheetOf t ≡ some es → WrittenSheet (arranged sort es) (sheetText (arranged sort es))
       written es is = form.sheet-written (arranged sort es) (arranged-all sort es (respell.entries-all t es is))
 
-      go : {n : ℕ} → refusals.Outcome sort t old n → SheetCall sort t old answered left
+      go : {n : ℕ} → refusals.Outcomes sort t old n → SheetCall sort t old answered left
       go (refusals.long h) = of (too-long (omega arith))
       go (refusals.many h many) = of (too-many h (form.count-lines t) (omega arith))
       go (refusals.bad h few e) = of (malformed h (form.count-lines t) few (λ es s. impossible (sym e ∙ form.sheet-reads s)))
-      go (refusals.no-room h few es is less) = of (no-room h (form.count-lines t) few (form.reads-sheet t es is) (form.arranged-has sort es) (written es is) less)
-      go (refusals.good h few es is room) = of (sheet-written h (form.count-lines t) few (form.reads-sheet t es is) (form.arranged-has sort es) (written es is) room)
+      go (refusals.no-room h few es is less) = of (no-room h (form.count-lines t) few (form.reads-sheet t es is) (order.arranged-has sort es (respell.entries-all t es is)) (written es is) less)
+      go (refusals.good h few es is room) = of (sheet-written h (form.count-lines t) few (form.reads-sheet t es is) (order.arranged-has sort es (respell.entries-all t es is)) (written es is) room)
 
 -- what a good call has found
 pub says-good : {sort : Bool} {t old new : List ℕ} {r : Answer ℕ} (n : ℕ) → SheetCall sort t old r new → r ≡ gives n

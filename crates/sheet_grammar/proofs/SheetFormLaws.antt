@@ -1,6 +1,5 @@
 -- A sheet: what the form has is what is read, the number of its lines, and what is written. Assumes nothing.
 use mathlib.Core.Path.{_≡_, refl, sym, ap, ap₂, subst, _∙_}
-use mathlib.Core.Bool.{Bool, true, false}
 use mathlib.Core.List.{List, [], _∷_, _++_}
 use mathlib.Core.Option.{some}
 use Prim.Native.Nat.{ℕ, suc}
@@ -12,12 +11,11 @@ use Rattle.notation.specs.Pieces.{Lacks, Each, contains, splitOn, separated}
 use Rattle.notation.proofs.OptionLaws.{same-value}
 use Rattle.notation.proofs.SeparatedLaws.{lacks-cons, index-none, separated-split, pieces-lack}
 use Rattle.sheet_lines.specs.declared.Entry.{Entry}
-use Rattle.sheet_answers.specs.Sheets.{sheetOf, linesOf, sheetLines, sheetText, AllEntries, arranged}
+use Rattle.sheet_answers.specs.Sheets.{sheetOf, linesOf, sheetLines, sheetText, AllEntries}
 use Rattle.sheet_answers.proofs.LineLaws.{no-lines, last-lines, after-lines}
 use Rattle.sheet_answers.proofs.SheetLaws as read
 use Rattle.sheet_answers.proofs.RespellLaws as respell
-use Rattle.sheet_answers.proofs.ArrangedLaws.{sorted-is, sorted-only}
-use Rattle.sheet_grammar.specs.SheetForm.{Sheet, empty, line-ended, no-newline, no-byte, and-byte, Lines, no-line, one-ended, unfinished, WrittenSheet, no-entry, and-entry, Arranged, as-given, by-address}
+use Rattle.sheet_grammar.specs.SheetForm.{Sheet, empty, line-ended, no-newline, no-byte, and-byte, Lines, no-line, one-ended, unfinished, WrittenSheet, no-entry, and-entry}
 use Rattle.sheet_grammar.proofs.LineFormLaws.{line-reads, reads-line, line-written, one-line}
 
 -- ---- read
@@ -80,13 +78,3 @@ sheet-written (e ∷ es) a = subst (WrittenSheet (e ∷ es)) (sym (read.text-con
 pub one-text : {es : List Entry} {t u : List ℕ} → WrittenSheet es t → WrittenSheet es u → t ≡ u
 one-text no-entry no-entry = refl
 one-text (and-entry v w) (and-entry x y) = ap₂ (λ l t. l ++ 10 ∷ t) (one-line v x) (one-text w y)
-
--- ---- the order
-
-pub arranged-has : (sort : Bool) (es : List Entry) → Arranged sort es (arranged sort es)
-arranged-has true es = by-address (sorted-is es)
-arranged-has false es = as-given
-
-pub arranged-only : {sort : Bool} {es fs : List Entry} → Arranged sort es fs → fs ≡ arranged sort es
-arranged-only as-given = refl
-arranged-only (by-address {es} {fs} s) = sorted-only es fs s

@@ -6,20 +6,19 @@ use mathlib.Core.List.{List, [], _∷_, _++_}
 use Prim.Native.Nat.{ℕ, suc, _≤_, _<_}
 use lib.ListN.{length, drop}
 use Rattle.address.specs.declared.Address.{Address}
+use Rattle.address.specs.declared.Address.the-variants.{V4, V6}
 use Rattle.address.specs.declared.Refusal.the-variants.{TextTooLong, Malformed, NoRoom, TooMany}
 use Rattle.address.specs.Answers.{Answer, gives, refuses}
 use Rattle.grammar.specs.Rfc3986.{DIGIT, digit-string}
 use Rattle.grammar.specs.StrictForm.{StrictForm}
 use Rattle.grammar.specs.NormalForm.{NormalForm}
-use Rattle.stable_sort.specs.Stable.{StableSort}
 use Rattle.sheet_lines.specs.declared.Entry.{Entry}
-use Rattle.sheet_answers.specs.Sheets.{place}
 
 -- "," and the newline
-abbrev pub comma : ℕ
+abbrev comma : ℕ
 comma = 0x2C
 
-abbrev pub newline : ℕ
+abbrev newline : ℕ
 newline = 0x0A
 
 -- ---- a line
@@ -64,12 +63,41 @@ pub data WrittenSheet : List Entry → List ℕ → Type 0 where
   no-entry : WrittenSheet [] []
   and-entry : {e : Entry} {es : List Entry} {l t : List ℕ} → WrittenLine e l → WrittenSheet es t → WrittenSheet (e ∷ es) (l ++ newline ∷ t)
 
--- the order in which the entries are written, by the request
+-- ---- the order, by rules of its own: nothing is taken from the first definition
+
+-- the first address does not come after the second
+pub data not-after : Address → Address → Type 0 where
+  -- "IPv4 before IPv6"
+  ipv4-first : {v hi lo : ℕ} → not-after (V4 v) (V6 hi lo)
+  -- those of a family "ordered as numbers of 32 or 128 bits, the first byte highest" (01): of 128 bits the upper halves decide, and where they are
+  -- equal the lower
+  both-ipv4 : {v w : ℕ} → v ≤ w → not-after (V4 v) (V4 w)
+  upper-below : {hi lo i k : ℕ} → hi < i → not-after (V6 hi lo) (V6 i k)
+  upper-equal : {hi lo i k : ℕ} → hi ≡ i → lo ≤ k → not-after (V6 hi lo) (V6 i k)
+
+-- no entry comes after the next
+pub data in-order : List Entry → Type 0 where
+  no-next : in-order []
+  last-one : {e : Entry} → in-order (e ∷ [])
+  then-next : {e f : Entry} {es : List Entry} → not-after (e .address) (f .address) → in-order (f ∷ es) → in-order (e ∷ f ∷ es)
+
+-- no entry has the address
+pub data lacks-address (a : Address) : List Entry → Type 0 where
+  none-has : lacks-address a []
+  nor-this : {e : Entry} {es : List Entry} → (e .address ≡ a → ⊥) → lacks-address a es → lacks-address a (e ∷ es)
+
+-- "each input line used exactly once", "keeping equal addresses in their old order": each entry written is, of the entries not yet used, the first
+-- with its address, and in the end none is left
+pub data used-in-turn : List Entry → List Entry → Type 0 where
+  none-left : used-in-turn [] []
+  and-used : {e : Entry} (before after : List Entry) {fs : List Entry} → lacks-address (e .address) before → used-in-turn (before ++ after) fs → used-in-turn (before ++ e ∷ after) (e ∷ fs)
+
+-- the entries given, and as they are written
 pub data Arranged : Bool → List Entry → List Entry → Type 0 where
   -- "Unsorted lines stay in order."
   as-given : {es : List Entry} → Arranged false es es
-  -- "on request sorts whole lines by address, IPv4 before IPv6, keeping equal addresses in their old order", "each input line used exactly once"
-  by-address : {es fs : List Entry} → StableSort (λ (e : Entry). place (e .address)) es fs → Arranged true es fs
+  -- "on request sorts whole lines by address"
+  by-address : {es fs : List Entry} → used-in-turn es fs → in-order fs → Arranged true es fs
 
 -- ---- the call
 

@@ -105,10 +105,6 @@ module _ (t : List ℕ) where
       go false none e = refl
       go false (some x) e = absurd (omega (arith, number-pos r, ap (λ q. q .number) e))
 
-pub no-volume : (a : Option Address) (p : Option ℕ) → entryOf a none p ≡ none
-no-volume none p = refl
-no-volume (some a) p = refl
-
 pub no-ph : (a : Option Address) (v : Option ℕ) → entryOf a v none ≡ none
 no-ph none v = refl
 no-ph (some a) none = refl

@@ -1,7 +1,7 @@
 -- What is claimed of a list put in the order of its keys. Assumes nothing.
 use mathlib.Core.Path.{_≡_}
 use mathlib.Core.Logic.{_↔_}
-use mathlib.Core.List.{List, map}
+use mathlib.Core.List.{List, map, List·Permᴰ}
 use Prim.Native.Nat.{ℕ, _≤_, _<_}
 use lib.ListN.{length, getD}
 use Rattle.stable_sort.specs.Stable.{Rising, withKey, StableSort, sortBy}
@@ -16,6 +16,10 @@ module _ {A : Type 0} (key : A → ℕ) where
 
   pub only : (xs ys : List A) → StableSort key xs ys → ys ≡ sortBy key xs
   only = laws.sort-only key
+
+  -- It has the elements of the given list, each as often as that.
+  pub each-once : {xs ys : List A} → StableSort key xs ys → List·Permᴰ xs ys
+  each-once s = s .each-once
 
   -- A list that rises and has the same elements of each key, in the same order, is that one: that each element stands in it once follows.
   pub these-suffice : (xs ys : List A) → Rising key ys → ((k : ℕ) → withKey key k ys ≡ withKey key k xs) → StableSort key xs ys

@@ -1,7 +1,7 @@
 -- Putting a list in the order of its keys: it is done by insertion, and there is one way to do it. Assumes nothing.
 use mathlib.Core.Path.{_≡_, refl, sym, ap, ap₂, _∙_}
 use mathlib.Core.Bool.{Bool, true, false, cond}
-use mathlib.Core.List.{List, [], _∷_, List·Permᴰ, List·Permᴰ·nil, List·Permᴰ·cons, List·Permᴰ·swap, List·Permᴰ·trans}
+use mathlib.Core.List.{List, [], _∷_, List·Permᴰ, List·Permᴰ·nil, List·Permᴰ·cons, List·Permᴰ·swap, List·Permᴰ·trans, Permᴰ·refl}
 use Prim.Native.Nat.{ℕ, zero, suc, _≤_, _<_}
 use native.Mathlib.Decide.{decLe, ℕ-discrete}
 use native.Mathlib.Omega.{arith}
@@ -32,7 +32,7 @@ module _ {A : Type 0} (key : A → ℕ) where
     unfolding withKey
     with-no n = rw (ne-eqb (key x) k n)
 
-  with-tail : (k : ℕ) (x : A) (xs ys : List A) → withKey key k xs ≡ withKey key k ys → withKey key k (x ∷ xs) ≡ withKey key k (x ∷ ys)
+  pub with-tail : (k : ℕ) (x : A) (xs ys : List A) → withKey key k xs ≡ withKey key k ys → withKey key k (x ∷ xs) ≡ withKey key k (x ∷ ys)
   unfolding withKey
   with-tail k x xs ys e = ap (λ w. cond (eqb (key x) k) (x ∷ w) w) e
 
@@ -72,14 +72,10 @@ module _ {A : Type 0} (key : A → ℕ) where
     unfolding insertBy
     insert-on h = rw (lt-leb (key x) (key y) h)
 
-  pub same-perm : (xs : List A) → List·Permᴰ xs xs
-  same-perm [] = List·Permᴰ·nil
-  same-perm (x ∷ xs) = List·Permᴰ·cons refl (same-perm xs)
-
   insert-perm : (x : A) (ys : List A) → List·Permᴰ (x ∷ ys) (insertBy key x ys)
-  insert-perm x [] = rw (insert-none x) (same-perm (x ∷ []))
+  insert-perm x [] = rw (insert-none x) (Permᴰ·refl (x ∷ []))
   insert-perm x (y ∷ ys) = elim (decLe (key x) (key y)) [
-    | yes h ↦ rw (insert-here x y ys h) (same-perm (x ∷ y ∷ ys))
+    | yes h ↦ rw (insert-here x y ys h) (Permᴰ·refl (x ∷ y ∷ ys))
     | no n ↦ rw (insert-on x y ys (omega arith)) (List·Permᴰ·trans (List·Permᴰ·swap refl refl) (List·Permᴰ·cons refl (insert-perm x ys)))
   ]
 
@@ -171,7 +167,7 @@ module _ {A : Type 0} (key : A → ℕ) where
 
   -- a list that rises is sorted already
   pub sort-rising : (xs : List A) → Rising key xs → sortBy key xs ≡ xs
-  sort-rising xs r = sym (sort-only xs xs (record { each-once = same-perm xs; rising = r; old-order = λ k. refl }))
+  sort-rising xs r = sym (sort-only xs xs (record { each-once = Permᴰ·refl xs; rising = r; old-order = λ k. refl }))
 
   pub sort-twice : (xs : List A) → sortBy key (sortBy key xs) ≡ sortBy key xs
   sort-twice xs = sort-rising (sortBy key xs) (sort-is xs .rising)

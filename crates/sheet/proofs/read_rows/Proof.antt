@@ -1,20 +1,20 @@
 -- `sheet::read_rows` meets its contract. Assumes nothing.
-use mathlib.Core.Path.{_≡_, sym, _∙_}
+use mathlib.Core.Path.{sym, _∙_}
 use Prim.Native.Nat.{_+_, _≤_}
 use native.Mathlib.Omega.{arith}
 use borrow.Author.Needs.{needs}
 use denote.Ref.{now}
 use lib.ListN.{length}
 use Rattle.notation.proofs.SliceLaws.{to-end-less, to-end-shorter}
-use Rattle.sheet_lines.proofs.EntryLaws.{line-says, no-line-says}
+use Rattle.sheet_lines.proofs.EntryLaws.{no-line-says}
 use Rattle.sheet.specs.Inner.{Room}
 use Rattle.sheet.proofs.RowLaws.{row-there, room-stays}
-use Rattle.sheet.proofs.PassLaws.{Reading, finished-says, read-start, read-many, read-bad, read-on, read-done}
+use Rattle.sheet.proofs.PassLaws.{RowsRead, finished-says, read-start, read-many, read-bad, read-on, read-done}
 use Rattle.sheet.proofs.read_rows.Statement.{statement}
 use Rattle.sheet.proofs.read_rows.Tie as tie
 
 abbrev Inv-loop : tie.InvT-loop
-Inv-loop sheet hi₀ lo₀ families₀ readings₀ rest₀ n₀ hi lo families readings rest n = Reading sheet rest hi lo families readings n × Room hi lo families readings × (length rest ≤ length sheet)
+Inv-loop sheet hi₀ lo₀ families₀ readings₀ rest₀ n₀ hi lo families readings rest n = RowsRead sheet rest hi lo families readings n × Room hi lo families readings × (length rest ≤ length sheet)
 
 abbrev μ-loop : tie.MeasureT-loop
 μ-loop sheet hi₀ lo₀ families₀ readings₀ rest₀ n₀ hi lo families readings rest n = length rest
@@ -80,35 +80,31 @@ add-rest : tie.Need-add-rest Inv-loop μ-loop
 add-rest c =
     let x = c .before .before .before .before .before .before .before .before .before .before .before .before .before .before in
     let r = x .before .before in
-    let h = finished-says (now (r .before .before .before .before .loop .rest)) (r .before .find .result) _ (line-says _ _ (sym (x .entry .given .1) ∙ r .finished-line .ensures)) .0 in
+    let h = finished-says (now (r .before .before .before .before .loop .rest)) (r .before .find .result) _ (sym (x .entry .given .1) ∙ r .finished-line .ensures) .0 in
     omega arith
 
 sub-rest : tie.Need-sub-rest Inv-loop μ-loop
 sub-rest c =
     let x = c .before .before .before .before .before .before .before .before .before .before .before .before .before .before in
     let r = x .before .before in
-    let h = finished-says (now (r .before .before .before .before .loop .rest)) (r .before .find .result) _ (line-says _ _ (sym (x .entry .given .1) ∙ r .finished-line .ensures)) .0 in
+    let h = finished-says (now (r .before .before .before .before .loop .rest)) (r .before .find .result) _ (sym (x .entry .given .1) ∙ r .finished-line .ensures) .0 in
     omega arith
 
 part-rest-start : tie.Need-part-rest-start Inv-loop μ-loop
 part-rest-start c =
     let x = c .before .before .before .before .before .before .before .before .before .before .before .before .before .before in
     let r = x .before .before in
-    let h = finished-says (now (r .before .before .before .before .loop .rest)) (r .before .find .result) _ (line-says _ _ (sym (x .entry .given .1) ∙ r .finished-line .ensures)) .0 in
+    let h = finished-says (now (r .before .before .before .before .loop .rest)) (r .before .find .result) _ (sym (x .entry .given .1) ∙ r .finished-line .ensures) .0 in
     omega arith
 
 part-rest-end : tie.Need-part-rest-end Inv-loop μ-loop
-part-rest-end c =
-    let x = c .before .before .before .before .before .before .before .before .before .before .before .before .before .before in
-    let r = x .before .before in
-    let h = finished-says (now (r .before .before .before .before .loop .rest)) (r .before .find .result) _ (line-says _ _ (sym (x .entry .given .1) ∙ r .finished-line .ensures)) .0 in
-    omega arith
+part-rest-end c = search needs
 
 loop-less : tie.Need-loop-less Inv-loop μ-loop
 loop-less c =
     let x = c .before .before .before .before .before .before .before .before .before .before .before .before .before .before .before in
     let r = x .before .before in
-    let h = finished-says (now (r .before .before .before .before .loop .rest)) (r .before .find .result) _ (line-says _ _ (sym (x .entry .given .1) ∙ r .finished-line .ensures)) .0 in
+    let h = finished-says (now (r .before .before .before .before .loop .rest)) (r .before .find .result) _ (sym (x .entry .given .1) ∙ r .finished-line .ensures) .0 in
     to-end-less _ (now (x .before .before .before .before .before .before .loop .rest)) h
 
 loop-again : tie.Need-loop-again Inv-loop μ-loop
@@ -119,7 +115,7 @@ loop-again c =
     let f = r .before in
     let o = f .before in
     let l = o .before .before .loop in
-    let is = finished-says _ _ _ (line-says _ _ (sym (x .entry .given .1) ∙ r .finished-line .ensures)) in (
+    let is = finished-says (now (l .rest)) (f .find .result) _ (sym (x .entry .given .1) ∙ r .finished-line .ensures) in (
       read-on (l .inv .0) _ (f .find .ensures) (is .0) (x .entry .given .0 .0) (is .1) (o .if1 .left) (row-there (l .inv .1) (l .n) (o .if1 .left)) (s .store-row .ensures),
       room-stays (s .store-row .ensures) (l .inv .1),
       to-end-shorter (f .find .result + 1) _ (now (l .rest)) (l .inv .2),
