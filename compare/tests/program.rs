@@ -4,7 +4,7 @@
 mod calls;
 mod scratch;
 
-use calls::{interrupted, set_non_blocking, without_waiting};
+use calls::{in_pieces, interrupted, set_non_blocking, without_waiting};
 use scratch::{Ended, Scratch};
 use std::io::{self, Read, Write};
 use std::process::Stdio;
@@ -541,4 +541,25 @@ fn interrupted_calls_are_made_again() {
     assert_eq!(scratch.read("status"), b"1");
     // it is loaded, and interrupts: each read and write leaves a mark
     assert!(scratch.read("interrupted").len() > 50);
+}
+
+#[test]
+fn calls_that_move_a_part_go_on_behind_it() {
+    let scratch = scratch("parts");
+    let lines: String = (0..256)
+        .map(|n| format!("10.0.{n}.7 10.0.{n}.8\n"))
+        .collect();
+    let answers: String = (0..256)
+        .map(|n| format!("10.0.{n}.7/32\n10.0.{n}.8/32\n"))
+        .collect();
+    scratch.file("lines", lines.as_bytes());
+    scratch.file("bad", b"x\n");
+    in_pieces(&scratch, "range_main 3 -e lines bad 3> status").is(
+        &format!("{answers}refused 2\n"),
+        &format!("bad:1: refused 2: {}\n", WORDS[1].1),
+        0,
+    );
+    assert_eq!(scratch.read("status"), b"1");
+    // it is loaded, and cuts short: each read does, and each write but the last of a text
+    assert!(scratch.read("pieces").len() > lines.len() / 3 + answers.len() / 14);
 }

@@ -4,7 +4,7 @@
 mod calls;
 mod scratch;
 
-use calls::{interrupted, set_non_blocking, without_waiting};
+use calls::{in_pieces, interrupted, set_non_blocking, without_waiting};
 use scratch::{Ended, Scratch};
 use std::io::{self, Write};
 use std::process::Stdio;
@@ -40,12 +40,16 @@ fn scratch(name: &str) -> Scratch {
     scratch
 }
 
-/// The longest line that is written.
-const LONGEST: &str = "fd00:1111:2222:3333:4444:5555:6666:7777,999999,1400\n";
-
-/// As many lines as a sheet may have, each as long as a line may be: 53,248 bytes.
+/// As many lines as a sheet may have, each other than the rest and as long as a line may be, in rising order: 53,248 bytes.
 fn largest() -> String {
-    LONGEST.repeat(1024)
+    (0..1024)
+        .map(|n| {
+            format!(
+                "fd00:1111:2222:3333:4444:5555:6666:{},999999,1400\n",
+                7000 + n
+            )
+        })
+        .collect()
 }
 
 /// A sheet that is refused writes nothing, and is told by its number, and on request with its line and the words, however it is
@@ -477,6 +481,26 @@ fn interrupted_calls_are_made_again() {
     // two reads, the write of the sheet and that of the status were each interrupted once
     assert_eq!(scratch.read("interrupted").len(), 4);
     interrupted(&scratch, "sheet_main 3 -e bad 3> status").is(
+        "",
+        &format!("bad:1: refused {MALFORMED}\n"),
+        0,
+    );
+    assert_eq!(scratch.read("status"), b"1");
+}
+
+#[test]
+fn calls_that_move_a_part_go_on_behind_it() {
+    let scratch = scratch("parts");
+    scratch.file("good", GOOD);
+    scratch.file("bad", b"x\n");
+    scratch.file("largest", largest().as_bytes());
+    in_pieces(&scratch, "sheet_main 3 -s good 3> status").is(SORTED, "", 0);
+    assert_eq!(scratch.read("status"), b"0");
+    in_pieces(&scratch, "sheet_main 3 - largest 3> status").is(&largest(), "", 0);
+    assert_eq!(scratch.read("status"), b"0");
+    // it is loaded, and cuts short: each read does, and each write but the last
+    assert!(scratch.read("pieces").len() > 53_248 / 3 + 53_248 / 7);
+    in_pieces(&scratch, "sheet_main 3 -e bad 3> status").is(
         "",
         &format!("bad:1: refused {MALFORMED}\n"),
         0,

@@ -37,19 +37,29 @@ pub fn without_waiting(scratch: &Scratch, command: &str) -> Ended {
     ended
 }
 
-/// Runs a program of `target/bin` by itself, since the shell would be interrupted as well, with a library that is loaded before
-/// the C library and has every second call of the program interrupted.
-pub fn interrupted(scratch: &Scratch, command: &str) -> Ended {
-    let source = concat!(env!("CARGO_MANIFEST_DIR"), "/tests/interrupt.c");
+/// Runs a program of `target/bin` by itself, since the calls of the shell would be met as well, with the C file compiled as a
+/// library that is loaded before the C library.
+fn preloaded(scratch: &Scratch, library: &str, command: &str) -> Ended {
+    let source = format!("{}/tests/{library}.c", env!("CARGO_MANIFEST_DIR"));
+    let preload = scratch.path(&format!("{library}.so"));
     let compiler = std::env::var_os("CC").unwrap_or("cc".into());
     let compiled = Command::new(compiler)
         .args(["-shared", "-fPIC", "-o"])
-        .arg(scratch.path("interrupt.so"))
+        .arg(&preload)
         .arg(source)
         .status();
     assert!(compiled.expect("a C compiler").success());
-    let preload = scratch.path("interrupt.so");
     let preload = preload.to_str().expect("a plain path");
     let programs = concat!(env!("CARGO_MANIFEST_DIR"), "/../target/bin");
     scratch.sh(&format!("LD_PRELOAD='{preload}' '{programs}'/{command}"))
+}
+
+/// Runs a program with every second of its reads and writes interrupted.
+pub fn interrupted(scratch: &Scratch, command: &str) -> Ended {
+    preloaded(scratch, "interrupt", command)
+}
+
+/// Runs a program with reads that bring at most 3 bytes, and writes that take at most 7.
+pub fn in_pieces(scratch: &Scratch, command: &str) -> Ended {
+    preloaded(scratch, "pieces", command)
 }

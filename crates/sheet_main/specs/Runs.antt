@@ -117,3 +117,15 @@ statusOf Ended refused left = cond (ltb 0 left) 2 (cond refused 1 0)
 statusOf Full refused left = cond (ltb 0 left) 2 (cond refused 1 0)
 statusOf More refused left = 2
 statusOf Unread refused left = 2
+
+-- ---- an input
+
+-- An input is read as above, what was read of it is answered, and the status says so.
+pub record AnswersInput (sort explain : Bool) (name : List ℕ) (status : ℕ) : Type 0 where
+  pub turns : ℕ
+  pub run : Run
+  pub input : List ℕ
+  pub answered : Answered
+  pub reads : Reads turns run input
+  pub answers : AnswersRun sort explain name run input answered
+  pub is : status ≡ statusOf (run .end) (answered .refused) (answered .left)

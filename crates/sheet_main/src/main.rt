@@ -10,7 +10,7 @@ ghost use lib.Dec.{ltb};
 ghost use lib.ListN.{length};
 ghost use Rattle.notation.specs.Pieces.{contains};
 ghost use Rattle.program_io.specs.Calls.{Filled};
-ghost use Rattle.sheet_main.specs.Runs.{reached, afterRead, Turns, isMore, isWhole, Reads, Replies, Answers, AnswersRun, statusOf};
+ghost use Rattle.sheet_main.specs.Runs.{reached, afterRead, Turns, isMore, isWhole, Reads, Replies, Answers, AnswersRun, statusOf, AnswersInput};
 use address::Writing;
 use digits::read::find;
 use libc::STDERR_FILENO;
@@ -224,8 +224,8 @@ fn write_reply(reply: Reply, out: &[u8], note: &[u8]) -> Sent
     }
     let told = write_text(STDERR_FILENO, &note[..noted]);
     Sent {
-        moved: written + told.moved,
-        left: told.left,
+        moved: answer.moved + told.moved,
+        left: answer.left + told.left,
     }
 }
 
@@ -295,6 +295,7 @@ fn judge(end: End, answered: Answered, name: &[u8]) -> u8
 // Reads an input and answers it.
 fn answer_input(fd: i32, options: Options, name: &[u8]) -> u8
     requires { ⌜ length (now name) ≤ 4096 ⌝ }
+    ensures { λ r. ⌜ AnswersInput (options .sorted) (options .explain) (now (name .entry)) r ⌝ }
 {
     let mut input = [0u8; 65537];
     let outcome = read_all(fd, &mut input, name);
