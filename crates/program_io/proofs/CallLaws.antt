@@ -1,11 +1,11 @@
 -- What a read has brought, a path that is `-`, and a text that is a digit. Assumes nothing.
-use mathlib.Core.Path.{_≡_, refl, sym, ap, _∙_}
+use mathlib.Core.Path.{_≡_, refl, sym, ap, subst, _∙_}
 use mathlib.Core.Bool.{Bool, true, false, cond, not}
 use mathlib.Core.List.{List, [], _∷_}
-use Prim.Native.Nat.{ℕ, _-_, _≤_}
+use Prim.Native.Nat.{ℕ, _-_, _≤_, _<_}
 use native.Mathlib.Omega.{arith}
-use borrow.Author.Tests.{ltb-true}
-use lib.Dec.{T, eqb}
+use borrow.Author.Tests.{lt-ltb, le-ltb}
+use lib.Dec.{eqb}
 use lib.IntN.{ℤ, pos, negsuc}
 use lib.ListN.{length, getD}
 use lib.Signed.{nonNeg, ltZ}
@@ -18,31 +18,65 @@ use Rattle.notation.proofs.AsciiLaws.{within-exactly}
 use Rattle.program_io.specs.declared.Digit.the-variants.{Is, NoDigit}
 use Rattle.program_io.specs.declared.Got.{Got}
 use Rattle.program_io.specs.declared.Got.the-variants.{Bytes, Again, Failed}
-use Rattle.program_io.specs.Calls.{Brought, Filled, isDash, singleDigit}
+use Rattle.program_io.specs.Calls.{broughtOf, Filled, isStuck, isDash, singleDigit}
 
-negative : (z : ℤ) → ltZ z (pos 0) ≡ true → T (not (nonNeg z))
-negative (pos n) e = let l = ltb-true n 0 e in absurd (omega arith)
-negative (negsuc n) e = tt
+-- ---- what a read has brought
 
-not-negative : (z : ℤ) → ltZ z (pos 0) ≡ false → T (nonNeg z)
-not-negative (pos n) e = tt
-not-negative (negsuc n) e = let z : _≡_ {A = ℕ} 0 1 = cc in absurd (omega arith)
+-- the sign of an answer, as the code tests it
+sign : (z : ℤ) → ltZ z (pos 0) ≡ not (nonNeg z)
+sign (pos n) = le-ltb n 0 (omega arith)
+sign (negsuc n) = refl
 
--- as the code tests it
-pub below-zero : (z : ℤ) → SFits w64 z → ltZ (toZ w64 (ofZ w64 z)) (pos 0) ≡ true → T (not (nonNeg z))
-below-zero z f e = negative z (sym (ap (λ x. ltZ x (pos 0)) (toZ-ofZ f)) ∙ e)
+pub tested : (z : ℤ) → SFits w64 z → ltZ (toZ w64 (ofZ w64 z)) (pos 0) ≡ not (nonNeg z)
+tested z f = ap (λ x. ltZ x (pos 0)) (toZ-ofZ f) ∙ sign z
 
-pub above-zero : (z : ℤ) → SFits w64 z → ltZ (toZ w64 (ofZ w64 z)) (pos 0) ≡ false → T (nonNeg z)
-above-zero z f e = not-negative z (sym (ap (λ x. ltZ x (pos 0)) (toZ-ofZ f)) ∙ e)
+-- not-not
+flipped : (b c : Bool) → not b ≡ c → b ≡ not c
+flipped true c e = ap not e
+flipped false c e = ap not e
 
-pub same-count : (z : ℤ) (size n : ℕ) → SFits w64 z → n ≡ clamped (toZ w64 (ofZ w64 z)) size → n ≡ clamped z size
-same-count z size n f e = e ∙ ap (λ x. clamped x size) (toZ-ofZ f)
+module _ (z : ℤ) (f : SFits w64 z) where
+  pub below-zero : ltZ (toZ w64 (ofZ w64 z)) (pos 0) ≡ true → nonNeg z ≡ false
+  below-zero e = flipped (nonNeg z) true (sym (tested z f) ∙ e)
 
-pub brought-filled : (z : ℤ) (size most : ℕ) → size ≡ most → (g : Got) → Brought z size g → Filled most g
-brought-filled (pos k) size most e (Bytes n) b = omega (arith, e, b .1)
-brought-filled (negsuc k) size most e (Bytes n) b = omega (arith, b .1)
-brought-filled z size most e Again b = tt
-brought-filled z size most e Failed b = tt
+  pub above-zero : ltZ (toZ w64 (ofZ w64 z)) (pos 0) ≡ false → nonNeg z ≡ true
+  above-zero e = flipped (nonNeg z) false (sym (tested z f) ∙ e)
+
+  pub same-count : (size n : ℕ) → n ≡ clamped (toZ w64 (ofZ w64 z)) size → n ≡ clamped z size
+  same-count size n e = e ∙ ap (λ x. clamped x size) (toZ-ofZ f)
+
+pub brought-filled : (z : ℤ) (i : Bool) (size most : ℕ) → size ≡ most → (g : Got) → g ≡ broughtOf z i size → Filled most g
+unfolding broughtOf
+brought-filled (pos k) i size most e g b = subst (Filled most) (sym b) (omega (arith, e))
+brought-filled (negsuc k) true size most e g b = subst (Filled most) (sym b) tt
+brought-filled (negsuc k) false size most e g b = subst (Filled most) (sym b) tt
+
+-- each case from what the code has found
+module _ (z : ℤ) (f : SFits w64 z) (i : Bool) (size : ℕ) where
+  pub got-again : ltZ (toZ w64 (ofZ w64 z)) (pos 0) ≡ true → i ≡ true → Again ≡ broughtOf z i size
+  unfolding broughtOf
+  got-again e h = rw (below-zero z f e, h)
+
+  pub got-failure : ltZ (toZ w64 (ofZ w64 z)) (pos 0) ≡ true → i ≡ false → Failed ≡ broughtOf z i size
+  unfolding broughtOf
+  got-failure e h = rw (below-zero z f e, h)
+
+  pub got-bytes : ltZ (toZ w64 (ofZ w64 z)) (pos 0) ≡ false → (n : ℕ) → n ≡ clamped (toZ w64 (ofZ w64 z)) size → Bytes n ≡ broughtOf z i size
+  unfolding broughtOf
+  got-bytes e n h =
+      ap Bytes (same-count z f size n h)
+      ∙ ap (λ b. cond b (Bytes (clamped z size)) (cond i Again Failed)) (sym (above-zero z f e))
+
+-- whether a write has failed
+module _ (z : ℤ) (f : SFits w64 z) (i : Bool) (taken : ℕ) where
+  pub put-taken : 0 < taken → false ≡ isStuck z i taken
+  put-taken h = rw (lt-ltb 0 taken h)
+
+  pub put-failed : taken ≤ 0 → ltZ (toZ w64 (ofZ w64 z)) (pos 0) ≡ true → not i ≡ isStuck z i taken
+  put-failed h e = rw (le-ltb 0 taken h, below-zero z f e)
+
+  pub put-nothing : taken ≤ 0 → ltZ (toZ w64 (ofZ w64 z)) (pos 0) ≡ false → true ≡ isStuck z i taken
+  put-nothing h e = rw (le-ltb 0 taken h, above-zero z f e)
 
 -- ---- a path that is `-`
 

@@ -1,9 +1,8 @@
 -- What the programs make of the answers of the system. Assumes nothing.
-use mathlib.Core.Path.{_≡_}
 use mathlib.Core.Bool.{Bool, true, false, cond, not}
 use mathlib.Core.List.{List, [], _∷_, _++_}
 use Prim.Native.Nat.{ℕ, _-_, _≤_}
-use lib.Dec.{T, eqb}
+use lib.Dec.{eqb, ltb}
 use lib.IntN.{ℤ}
 use lib.Signed.{nonNeg}
 use Rattle.io.specs.Counts.{clamped}
@@ -13,12 +12,14 @@ use Rattle.program_io.specs.declared.Got.the-variants.{Bytes, Again, Fai
 use Rattle.program_io.specs.declared.Digit.{Digit}
 use Rattle.program_io.specs.declared.Digit.the-variants.{Is, NoDigit}
 
--- What a read that answered `got` has brought to a buffer of so many bytes. Only a read that did not fail has brought bytes, so that none that
--- failed is taken for the end of the input.
-abbrev pub Brought : ℤ → ℕ → Got → Type 0
-Brought got size (Bytes n) = T (nonNeg got) × (n ≡ clamped got size)
-Brought got size Again = T (not (nonNeg got))
-Brought got size Failed = T (not (nonNeg got))
+-- What a read that answered `got` has brought to a buffer of so many bytes: a negative answer is a failure, and one that was interrupted is made
+-- again (POSIX, read).
+unfoldable pub broughtOf : ℤ → Bool → ℕ → Got
+broughtOf got interrupted size = cond (nonNeg got) (Bytes (clamped got size)) (cond interrupted Again Failed)
+
+-- Whether a write that answered `put` has failed: it took no byte, and was not interrupted (POSIX, write).
+abbrev pub isStuck : ℤ → Bool → ℕ → Bool
+isStuck put interrupted taken = cond (ltb 0 taken) false (cond (nonNeg put) true (not interrupted))
 
 -- no more bytes than there was room for
 abbrev pub Filled : ℕ → Got → Type 0

@@ -1,10 +1,9 @@
 // What the programs do with the answers of the system: what a read has brought, a text written, what is told of a failure, and their arguments.
 ghost use mathlib.Core.Path.{_≡_};
-ghost use mathlib.Core.Bool.{false};
-ghost use Prim.Native.Nat.{_+_, _<_};
+ghost use Prim.Native.Nat.{_+_};
 ghost use lib.ListN.{length};
 ghost use Rattle.output.specs.Placing.{Puts};
-ghost use Rattle.program_io.specs.Calls.{Brought, troubleText, isDash, singleDigit};
+ghost use Rattle.program_io.specs.Calls.{broughtOf, isStuck, troubleText, isDash, singleDigit};
 use output::put_bytes;
 
 // What a read has brought: so many bytes, of which there are none at the end of the input; or nothing, since it was interrupted, or failed.
@@ -34,12 +33,12 @@ pub fn put_trouble(line: &mut [u8], what: &[u8]) -> usize
     put_bytes(line, behind, what)
 }
 
-// What a read that answered `got` has brought to the buffer.
-pub fn brought(got: isize, input: &[u8]) -> Got
-    ensures { λ r. ⌜ Brought got (length (now (input .entry))) r ⌝ }
+// What a read that answered `got` has brought to the buffer, where the system says whether it was interrupted.
+pub fn brought(got: isize, interrupted: bool, input: &[u8]) -> Got
+    ensures { λ r. ⌜ r ≡ broughtOf got interrupted (length (now (input .entry))) ⌝ }
 {
     if got < 0 {
-        if os::errno() == libc::EINTR {
+        if interrupted {
             return Got::Again;
         }
         return Got::Failed;
@@ -47,15 +46,15 @@ pub fn brought(got: isize, input: &[u8]) -> Got
     Got::Bytes(io::count(got, input))
 }
 
-// Whether a call that wrote so many bytes has failed: it took none, and was not interrupted.
-fn stuck(put: isize, taken: usize) -> bool
-    ensures { λ r. ⌜ (0 < taken → r ≡ false) ⌝ }
+// Whether a write that answered `put`, and so took so many bytes, has failed: it took none, and was not interrupted.
+fn stuck(put: isize, interrupted: bool, taken: usize) -> bool
+    ensures { λ r. ⌜ r ≡ isStuck put interrupted taken ⌝ }
 {
     if 0 < taken {
         return false;
     }
     if put < 0 {
-        return os::errno() != libc::EINTR;
+        return !interrupted;
     }
     true
 }
@@ -70,7 +69,7 @@ pub fn write_text(fd: i32, text: &[u8]) -> Sent
     while 0 < rest.len() {
         let put = libc::write(fd, rest);
         let taken = io::count(put, rest);
-        if stuck(put, taken) {
+        if stuck(put, os::errno() == libc::EINTR, taken) {
             return Sent {
                 moved,
                 left: rest.len(),

@@ -227,7 +227,8 @@ fn turn(
         return answer_piece(run, input, explain, name, out, notes);
     }
     let moved = libc::read(fd, input);
-    let got = brought(moved, input);
+    let interrupted = os::errno() == libc::EINTR;
+    let got = brought(moved, interrupted, input);
     after_read(run, got, input, explain, name, out, notes)
 }
 

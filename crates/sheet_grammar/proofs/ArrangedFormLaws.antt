@@ -6,7 +6,7 @@ use Prim.Native.Nat.{ℕ}
 use native.Mathlib.Decide.{ℕ-discrete}
 use native.Mathlib.Omega.{arith}
 use borrow.Author.Tests.{leb-false}
-use lib.Dec.{eqb, leb}
+use lib.Dec.{leb}
 use Rattle.stable_sort.specs.Stable.{Rising, withKey, insertBy, sortBy}
 use Rattle.stable_sort.proofs.StableLaws.{from-less, with-no, suffices, with-tail}
 use Rattle.sheet_lines.specs.declared.Entry.{Entry}

@@ -1,23 +1,23 @@
 -- All turns: what they have read, and why they ended. Assumes nothing.
 use mathlib.Core.Path.{_≡_, refl, sym, ap, subst, _∙_}
-use mathlib.Core.Bool.{Bool, true, false, cond, not}
-use mathlib.Core.List.{List, [], _++_, append-nil}
+use mathlib.Core.Bool.{Bool, true, false, cond}
+use mathlib.Core.List.{List, _++_, append-nil}
 use Prim.Native.Nat.{ℕ, _+_, _-_, _≤_, _<_}
 use native.Mathlib.Omega.{arith}
 use borrow.Author.Tests.{eqb-true, ltb-true, ltb-false}
-use lib.Dec.{eqb, ltb, T}
+use lib.Dec.{eqb, ltb}
 use lib.IntN.{ℤ}
-use lib.ListN.{length, take, drop}
+use lib.ListN.{take, drop}
 use lib.Seq.{take-add}
 use lib.Signed.{nonNeg}
+use Rattle.io.specs.Counts.{clamped}
 use Rattle.program_io.specs.declared.Got.{Got}
 use Rattle.program_io.specs.declared.Got.the-variants.{Bytes, Again, Failed}
-use Rattle.program_io.specs.Calls.{Brought, Filled}
-use Rattle.program_io.proofs.CallLaws.{brought-filled}
+use Rattle.program_io.proofs.Claims.{bytes-exactly, failed-exactly}
 use Rattle.sheet_main.specs.declared.End.{End}
 use Rattle.sheet_main.specs.declared.End.the-variants.{More, Ended, Full, Unread}
 use Rattle.sheet_main.specs.declared.Run.{Run}
-use Rattle.sheet_main.specs.Runs.{atStart, reached, afterRead, Turns, Chain, none, more, pieceOf, gathered}
+use Rattle.sheet_main.specs.Runs.{reached, afterRead, Chain, none, more, pieceOf, gathered}
 use Rattle.sheet_main.proofs.RunLaws.{chain-within}
 
 -- ---- what is read
@@ -123,12 +123,13 @@ room-left (more {run = run} c m t) e =
     subst (λ x. x .len < 65537) (sym (t .next)) (after-more run m (t .got) (room-left c m) (ap (λ x. x .end) (sym (t .next)) ∙ e))
 
 -- ended: a read that did not fail brought nothing, though there was room
-pub ended : {n : ℕ} {r : Run} {input : List ℕ} → Chain n r input → r .end ≡ Ended → (r .len < 65537) × ((answer : ℤ) × Brought answer (65537 - r .len) (Bytes 0))
+pub ended : {n : ℕ} {r : Run} {input : List ℕ} → Chain n r input → r .end ≡ Ended → (r .len < 65537) × ((answer : ℤ) × (nonNeg answer ≡ true) × (0 ≡ clamped answer (65537 - r .len)))
 ended (none input) e = absurd (omega (arith, ap code e))
 ended (more {run = run} {r = r} c m t) e =
     let a = after-ended run m (t .got) (ap (λ x. x .end) (sym (t .next)) ∙ e) in
     let l : r .len ≡ run .len = ap (λ x. x .len) (t .next) ∙ a .1 in
-    (omega (arith, room-left c m, l), (t .answer, subst (λ (k : ℕ). Brought (t .answer) (65537 - k) (Bytes 0)) (sym l) (subst (Brought (t .answer) (65537 - run .len)) (a .0) (t .brings))))
+    let b = bytes-exactly (t .answer) (t .interrupted) (65537 - run .len) 0 .0 (sym (t .brings) ∙ a .0) in
+    (omega (arith, room-left c m, l), (t .answer, b .0, b .1 ∙ ap (λ (k : ℕ). clamped (t .answer) (65537 - k)) (sym l)))
 
 -- full: there is one byte more than a sheet may have
 pub full : {n : ℕ} {r : Run} {input : List ℕ} → Chain n r input → r .end ≡ Full → r .len ≡ 65537
@@ -139,8 +140,8 @@ full (more {run = run} {r = r} c m t) e =
     omega (arith, most, least, ap (λ x. x .len) (t .next))
 
 -- unread: a read failed
-pub unread : {n : ℕ} {r : Run} {input : List ℕ} → Chain n r input → r .end ≡ Unread → (answer : ℤ) × T (not (nonNeg answer))
+pub unread : {n : ℕ} {r : Run} {input : List ℕ} → Chain n r input → r .end ≡ Unread → (answer : ℤ) × (nonNeg answer ≡ false)
 unread (none input) e = absurd (omega (arith, ap code e))
 unread (more {run = run} c m t) e =
     let f = after-unread run m (t .got) (ap (λ x. x .end) (sym (t .next)) ∙ e) in
-    (t .answer, subst (Brought (t .answer) (65537 - run .len)) f (t .brings))
+    (t .answer, failed-exactly (t .answer) (t .interrupted) (65537 - run .len) .0 (sym (t .brings) ∙ f) .0)

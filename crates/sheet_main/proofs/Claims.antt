@@ -1,22 +1,23 @@
 -- What is claimed of the sheet program. Assumes nothing.
 use mathlib.Core.Path.{_≡_}
 use mathlib.Core.Logic.{_↔_, _⊎_}
-use mathlib.Core.Bool.{Bool, true, false, not}
-use mathlib.Core.List.{List}
+use mathlib.Core.Bool.{Bool, true, false}
+use mathlib.Core.List.{List, []}
 use Prim.Native.Nat.{ℕ, _-_, _<_}
-use lib.Dec.{T}
 use lib.IntN.{ℤ}
-use lib.ListN.{take}
+use lib.ListN.{length, take}
 use lib.Signed.{nonNeg}
-use Rattle.program_io.specs.declared.Got.the-variants.{Bytes}
-use Rattle.program_io.specs.Calls.{Brought}
+use Rattle.io.specs.Counts.{clamped}
+use Rattle.sheet_answers.specs.SheetAnswers.{sheetRefusal, respelled}
+use Rattle.sheet_notes.specs.SheetNotes.{refusedNote}
 use Rattle.sheet_main.specs.declared.Run.{Run}
 use Rattle.sheet_main.specs.declared.End.{End}
 use Rattle.sheet_main.specs.declared.End.the-variants.{Ended, Full, Unread}
-use Rattle.sheet_main.specs.Runs.{Chain, gathered, isWhole, outputOf, noteOf, isRefused, statusOf}
+use Rattle.sheet_main.specs.Runs.{Chain, gathered, isWhole, outputOf, noteOf, isRefused, statusOf, AnswersInput}
 use Rattle.sheet_main.proofs.ChainLaws as chains
 use Rattle.sheet_main.proofs.ReplyLaws as replies
 use Rattle.sheet_main.proofs.StatusLaws as statuses
+use Rattle.sheet_main.proofs.InputLaws as inputs
 
 -- ---- reading
 
@@ -26,7 +27,7 @@ module _ {n : ℕ} {r : Run} {input : List ℕ} (c : Chain n r input) where
   all-kept = chains.all-kept c
 
   -- An input has ended only if a read that did not fail brought nothing, though there was room for a byte,
-  pub ended : r .end ≡ Ended → (r .len < 65537) × ((answer : ℤ) × Brought answer (65537 - r .len) (Bytes 0))
+  pub ended : r .end ≡ Ended → (r .len < 65537) × ((answer : ℤ) × (nonNeg answer ≡ true) × (0 ≡ clamped answer (65537 - r .len)))
   ended = chains.ended c
 
   -- it is longer than a sheet may be only if 65,537 bytes are read,
@@ -34,8 +35,19 @@ module _ {n : ℕ} {r : Run} {input : List ℕ} (c : Chain n r input) where
   full = chains.full c
 
   -- and it could not be read only if a call failed.
-  pub unread : r .end ≡ Unread → (answer : ℤ) × T (not (nonNeg answer))
+  pub unread : r .end ≡ Unread → (answer : ℤ) × (nonNeg answer ≡ false)
   unread = chains.unread c
+
+-- ---- what is written
+
+module _ (sort explain : Bool) (name t : List ℕ) where
+  -- Of a refused sheet nothing is written but the note,
+  pub refused-sheet : (sheetRefusal t ≡ 0 → ⊥) → (outputOf sort t ≡ []) × (noteOf explain name t ≡ refusedNote name explain (sheetRefusal t) t) × (isRefused t ≡ true)
+  refused-sheet z = (replies.bad-output sort explain name t z, replies.bad-note sort explain name t z, replies.bad-is sort explain name t z)
+
+  -- and of every other the sheet respelled.
+  pub good-sheet : sheetRefusal t ≡ 0 → (outputOf sort t ≡ respelled sort t) × (noteOf explain name t ≡ []) × (isRefused t ≡ false)
+  good-sheet z = (replies.good-output sort explain name t z, replies.good-note sort explain name t z, replies.good-is sort explain name t z)
 
 -- ---- a sheet that is longer than may be
 
@@ -67,3 +79,17 @@ module _ (refused : Bool) (left : ℕ) where
 -- That is so where the input has ended, or is longer than a sheet may be, and not where a read failed.
 pub whole-exactly : (e : End) → (isWhole e ≡ true) ↔ ((e ≡ Ended) ⊎ (e ≡ Full))
 whole-exactly = statuses.whole-exactly
+
+-- ---- an input
+
+module _ (sort explain : Bool) (name : List ℕ) (status : ℕ) (a : AnswersInput sort explain name status) where
+  -- By status 0 the bytes that the reads have brought are a good sheet, and as many bytes were taken as it has respelled;
+  pub input-written : status ≡ 0
+      → (sheetRefusal (gathered (a .reads .chain)) ≡ 0) × (a .answered .moved ≡ length (respelled sort (gathered (a .reads .chain))))
+  input-written = inputs.input-written sort explain name status a
+
+  -- by status 1 they are a sheet that is refused, and as many were taken as its note has.
+  pub input-refused : status ≡ 1
+      → (sheetRefusal (gathered (a .reads .chain)) ≡ 0 → ⊥)
+      × (a .answered .moved ≡ length (refusedNote name explain (sheetRefusal (gathered (a .reads .chain))) (gathered (a .reads .chain))))
+  input-refused = inputs.input-refused sort explain name status a

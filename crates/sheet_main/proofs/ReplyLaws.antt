@@ -1,6 +1,6 @@
 -- What is to be written for a sheet, as it stands in the buffers. Assumes nothing.
 use mathlib.Core.Path.{_≡_, refl, sym, ap, _∙_}
-use mathlib.Core.Bool.{Bool, true, false, cond, not}
+use mathlib.Core.Bool.{Bool, true, false, not}
 use mathlib.Core.List.{List, []}
 use mathlib.Core.Option.{Option, some, none}
 use Prim.Native.Nat.{ℕ, _+_, _≤_, _<_}
@@ -11,7 +11,7 @@ use lib.Dec.{eqb}
 use lib.ListN.{length, take}
 use lib.Seq.{length-take-le, take-all}
 use Rattle.address.specs.declared.Refusal.{Refusal}
-use Rattle.address.specs.Answers.{Answer, refusalNumber, gives, refuses}
+use Rattle.address.specs.Answers.{refusalNumber, gives, refuses}
 use Rattle.address.proofs.Claims.{number-above-0}
 use Rattle.output.specs.Placing.{Puts}
 use Rattle.output.proofs.PlacingLaws.{puts-whole}
@@ -23,30 +23,29 @@ use Rattle.sheet_answers.proofs.Claims.{number-1, number-10, number-2, room-for
 use Rattle.sheet_notes.specs.SheetNotes.{refusedNote}
 use Rattle.sheet_notes.proofs.Claims.{refused-most, front-refusal, front-note}
 use Rattle.sheet_main.specs.declared.Reply.{Reply}
-use Rattle.sheet_main.specs.declared.Answered.{Answered}
 use Rattle.sheet_main.specs.Runs.{outputOf, noteOf, isRefused, Replies, Answers}
 
 -- ---- a sheet that is not refused, and one that is
 
 module _ (sort explain : Bool) (name t : List ℕ) where
   module _ (z : sheetRefusal t ≡ 0) where
-    good-output : outputOf sort t ≡ respelled sort t
+    pub good-output : outputOf sort t ≡ respelled sort t
     good-output = rw (eq-eqb (sheetRefusal t) 0 z)
 
-    good-note : noteOf explain name t ≡ []
+    pub good-note : noteOf explain name t ≡ []
     good-note = rw (eq-eqb (sheetRefusal t) 0 z)
 
-    good-is : isRefused t ≡ false
+    pub good-is : isRefused t ≡ false
     good-is = rw (eq-eqb (sheetRefusal t) 0 z)
 
   module _ (z : sheetRefusal t ≡ 0 → ⊥) where
-    bad-output : outputOf sort t ≡ []
+    pub bad-output : outputOf sort t ≡ []
     bad-output = rw (ne-eqb (sheetRefusal t) 0 z)
 
-    bad-note : noteOf explain name t ≡ refusedNote name explain (sheetRefusal t) t
+    pub bad-note : noteOf explain name t ≡ refusedNote name explain (sheetRefusal t) t
     bad-note = rw (ne-eqb (sheetRefusal t) 0 z)
 
-    bad-is : isRefused t ≡ true
+    pub bad-is : isRefused t ≡ true
     bad-is = rw (ne-eqb (sheetRefusal t) 0 z)
 
 -- ---- in the program's buffers

@@ -1,21 +1,21 @@
 -- How an input is read, turn by turn. Assumes nothing.
 use mathlib.Core.Path.{_≡_, refl, sym, ap, subst, _∙_}
 use mathlib.Core.Bool.{Bool, true, false, cond, false≢true}
-use mathlib.Core.List.{List, [], _∷_, _++_}
+use mathlib.Core.List.{List}
 use Prim.Native.Nat.{ℕ, _+_, _-_, _≤_, _<_}
 use native.Mathlib.Decide.{decLt}
 use native.Mathlib.Omega.{arith}
-use borrow.Author.Tests.{eq-eqb, ne-eqb, lt-ltb, le-ltb}
+use borrow.Author.Tests.{ne-eqb, lt-ltb, le-ltb}
 use borrow.Rule.Slice.PartMut.{putMid, midOf, same-len-mid, take-put}
 use lib.Dec.{eqb, ltb}
 use lib.IntN.{ℤ}
-use lib.ListN.{length, take, drop, length-take, length-drop}
+use lib.ListN.{length, length-drop}
 use Rattle.notation.specs.Pieces.{contains, indexOf}
 use Rattle.notation.proofs.PieceLaws.{index-contains, index-lacks}
 use Rattle.notation.proofs.SliceLaws.{tail, to-end}
 use Rattle.program_io.specs.declared.Got.{Got}
 use Rattle.program_io.specs.declared.Got.the-variants.{Bytes, Again, Failed}
-use Rattle.program_io.specs.Calls.{Brought, Filled}
+use Rattle.program_io.specs.Calls.{broughtOf, Filled}
 use Rattle.program_io.proofs.CallLaws.{brought-filled}
 use Rattle.sheet_main.specs.declared.End.{End}
 use Rattle.sheet_main.specs.declared.End.the-variants.{More, Ended, Full, Unread}
@@ -57,16 +57,17 @@ module _ (run : Run) (old ys : List ℕ) (h : run .len ≤ 65537) (size : length
   new-size : length new ≡ 65537
   new-size = same-len-mid (run .len) (length old - run .len) old ys same ∙ size
 
-  module _ (answer : ℤ) (got : Got) (b : Brought answer (length (tail (run .len) new)) got) where
+  module _ (answer : ℤ) (interrupted : Bool) (got : Got) (b : got ≡ broughtOf answer interrupted (length (tail (run .len) new))) where
     pub turn-fills : Filled (65537 - run .len) got
-    turn-fills = brought-filled answer _ _ (room-left (run .len) new new-size) got b
+    turn-fills = brought-filled answer interrupted _ _ (room-left (run .len) new new-size) got b
 
     pub turned : (r : Run) → r ≡ afterRead run got → Turns run old new r
     turned r e =
         record {
           answer = answer;
+          interrupted = interrupted;
           got = got;
-          brings = subst (λ (n : ℕ). Brought answer n got) (room-left (run .len) new new-size) b;
+          brings = b ∙ ap (broughtOf answer interrupted) (room-left (run .len) new new-size);
           kept = take-put (run .len) (length old - run .len) old ys (omega arith);
           next = e;
         }
@@ -96,7 +97,7 @@ pub chain-within : {n : ℕ} {r : Run} {input : List ℕ} → Chain n r input �
 chain-within (none input) = omega arith
 chain-within (more {run = run} c m t) =
     let h = chain-within c in
-    subst (λ r. r .len ≤ 65537) (sym (t .next)) (after-within run (t .got) h (brought-filled (t .answer) _ _ refl (t .got) (t .brings)))
+    subst (λ r. r .len ≤ 65537) (sym (t .next)) (after-within run (t .got) h (brought-filled (t .answer) (t .interrupted) _ _ refl (t .got) (t .brings)))
 
 -- as the loop goes
 pub record Going (turns : ℕ) (run : Run) (input : List ℕ) : Type 0 where

@@ -1,14 +1,14 @@
 -- What the sheet program does with an input: how it is read, what is written, and the status. Assumes nothing.
 use mathlib.Core.Path.{_≡_}
 use mathlib.Core.Bool.{Bool, true, false, cond, not}
-use mathlib.Core.List.{List, [], _∷_, _++_}
+use mathlib.Core.List.{List, [], _++_}
 use Prim.Native.Nat.{ℕ, _+_, _-_, _≤_}
 use lib.Dec.{eqb, ltb}
 use lib.IntN.{ℤ}
 use lib.ListN.{length, take, drop}
 use Rattle.program_io.specs.declared.Got.{Got}
 use Rattle.program_io.specs.declared.Got.the-variants.{Bytes, Again, Failed}
-use Rattle.program_io.specs.Calls.{Brought}
+use Rattle.program_io.specs.Calls.{broughtOf}
 use Rattle.sheet_answers.specs.SheetAnswers.{sheetRefusal, respelled}
 use Rattle.sheet_notes.specs.SheetNotes.{refusedNote}
 use Rattle.sheet_main.specs.declared.End.{End}
@@ -36,8 +36,9 @@ afterRead run (Bytes n) = cond (eqb n 0) (record { len = run .len; end = Ended }
 -- A turn: a call that answered so was made on the room that is left, and what was read before stays.
 pub record Turns (run : Run) (old new : List ℕ) (r : Run) : Type 0 where
   pub answer : ℤ
+  pub interrupted : Bool
   pub got : Got
-  pub brings : Brought answer (65537 - run .len) got
+  pub brings : got ≡ broughtOf answer interrupted (65537 - run .len)
   pub kept : take (run .len) new ≡ take (run .len) old
   pub next : r ≡ afterRead run got
 

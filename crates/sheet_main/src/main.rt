@@ -125,7 +125,8 @@ fn turn(fd: i32, run: Run, input: &mut [u8], name: &[u8]) -> Run
 {
     let len = run.len;
     let moved = libc::read(fd, &mut input[len..]);
-    let got = brought(moved, &input[len..]);
+    let interrupted = os::errno() == libc::EINTR;
+    let got = brought(moved, interrupted, &input[len..]);
     after_read(run, got, name)
 }
 

@@ -1,21 +1,20 @@
 -- The first lines of a sheet: how many bytes and lines they have, and what they hold. Assumes nothing.
 use mathlib.Core.Path.{_≡_, refl, sym, ap, subst, _∙_}
-use mathlib.Core.Bool.{Bool, true, false, cond}
+use mathlib.Core.Bool.{Bool, true, false}
 use mathlib.Core.List.{List, [], _∷_, _++_}
 use mathlib.Core.Option.{Option, some, none}
-use Prim.Native.Nat.{ℕ, zero, suc, _+_, _≤_, _<_}
-use native.Mathlib.Numerals.{add-one}
+use Prim.Native.Nat.{ℕ, zero, suc, _≤_, _<_}
 use native.Mathlib.Decide.{decLt}
 use native.Mathlib.Omega.{arith}
 use lib.Dec.{eqb}
 use lib.ListN.{length, take, drop}
-use Rattle.notation.specs.Pieces.{Lacks, Each, indexOf, splitOn}
+use Rattle.notation.specs.Pieces.{Lacks, Each, indexOf}
 use Rattle.notation.proofs.PieceLaws.{index-contains, index-lacks, split-first, around}
 use Rattle.notation.proofs.SeparatedLaws.{lacks-cons, index-none, pieces-lack}
 use Rattle.sheet_lines.specs.declared.Entry.{Entry}
 use Rattle.sheet_lines.specs.Lines.{lineEntry}
 use Rattle.sheet_answers.specs.Sheets.{before, sheetOf, sheetLines}
-use Rattle.sheet_answers.proofs.LineLaws.{after-entries, after-lines, last-entries, last-lines, no-entries, no-lines}
+use Rattle.sheet_answers.proofs.LineLaws.{after-entries, after-lines, last-lines, no-entries, no-lines}
 use Rattle.sheet_notes.specs.SheetNotes.{newlines, oneMore, firstLines}
 use Rattle.sheet_notes.proofs.LineLaws.{good, good-none, good-last, good-after}
 

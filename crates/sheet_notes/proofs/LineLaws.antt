@@ -3,9 +3,8 @@ use mathlib.Core.Path.{_≡_, refl, sym, ap, _∙_}
 use mathlib.Core.Bool.{cond, Bool, true, false}
 use mathlib.Core.List.{List, [], _∷_, _++_}
 use mathlib.Core.Option.{Option, some, none}
-use Prim.Native.Nat.{ℕ, zero, suc, _+_, _*_, _≤_, _<_}
+use Prim.Native.Nat.{ℕ, _+_, _*_, _≤_, _<_}
 use native.Mathlib.Numerals.{add-one}
-use native.Mathlib.Decide.{decLt}
 use native.Mathlib.Omega.{arith}
 use borrow.Author.Tests.{eq-eqb, ne-eqb}
 use lib.Dec.{eqb}
@@ -14,7 +13,7 @@ use lib.Seq.{take-suc, take-all}
 use Rattle.notation.specs.Pieces.{Lacks, indexOf, splitOn}
 use Rattle.notation.proofs.PieceLaws.{split-found, split-last, split-first}
 use Rattle.notation.proofs.SeparatedLaws.{index-seam, seam}
-use Rattle.notation.proofs.SliceLaws.{tail, to-end, to-end-less}
+use Rattle.notation.proofs.SliceLaws.{tail, to-end}
 use Rattle.sheet_lines.specs.declared.Entry.{Entry}
 use Rattle.sheet_lines.specs.declared.LineReading.{LineReading}
 use Rattle.sheet_lines.specs.declared.LineReading.the-variants.{Line, NoLine}

@@ -23,6 +23,9 @@ write-requires c κs = search needs
 count-requires : tie.Need-count-requires Inv-loop μ-loop
 count-requires c κs = search needs
 
+errno-requires : tie.Need-errno-requires Inv-loop μ-loop
+errno-requires c κs = search needs
+
 stuck-requires : tie.Need-stuck-requires Inv-loop μ-loop
 stuck-requires c κs = search needs
 
@@ -52,7 +55,7 @@ loop-less c = search needs
 
 loop-again : tie.Need-loop-again Inv-loop μ-loop
 loop-again c =
-    let k = c .before .before .before .before in
+    let k = c .before .before .before .before .before in
     let l = k .before .before .before .loop in
     let n = k .count .result in (
       omega (arith, c .before .if2 .left),
@@ -71,6 +74,7 @@ write-text-spec =
     loop-holds
     write-requires
     count-requires
+    errno-requires
     stuck-requires
     returns
     returns-2

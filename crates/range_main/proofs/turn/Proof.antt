@@ -25,14 +25,17 @@ returns c =
 read-requires : tie.Need-read-requires
 read-requires c κs = search needs
 
+errno-requires : tie.Need-errno-requires
+errno-requires c κs = search needs
+
 brought-requires : tie.Need-brought-requires
 brought-requires c κs = search needs
 
 after-read-requires : tie.Need-after-read-requires
 after-read-requires c κs =
     let b = c .before .before .before in
-    let s = c .before .before .before .before .before .before .before .before .before .before .before .before .before .before .before in
-    (s .pre .0, search needs, s .pre .2, s .pre .3, brought-filled _ _ _ (search needs) (b .brought .result) (b .brought .ensures))
+    let s = c .before .before .before .before .before .before .before .before .before .before .before .before .before .before .before .before in
+    (s .pre .0, search needs, s .pre .2, s .pre .3, brought-filled _ _ _ _ (search needs) (b .brought .result) (b .brought .ensures))
 
 same-length-4 : tie.Need-same-length-4
 same-length-4 c = search needs
@@ -58,6 +61,7 @@ turn-spec =
     same-length-3
     returns
     read-requires
+    errno-requires
     brought-requires
     after-read-requires
     same-length-4

@@ -17,6 +17,9 @@ part-read-end c = search needs
 read-requires : tie.Need-read-requires
 read-requires c κs = search needs
 
+errno-requires : tie.Need-errno-requires
+errno-requires c κs = search needs
+
 sub-brought : tie.Need-sub-brought
 sub-brought c = search needs
 
@@ -31,9 +34,9 @@ brought-requires c κs = search needs
 
 after-read-requires : tie.Need-after-read-requires
 after-read-requires c κs =
-    let r = c .before .before .before .before .before in
+    let r = c .before .before .before .before .before .before in
     let s = r .before .before .before .before in
-    (s .pre .0, turn-fills (s .args .run) (now (s .args .input)) (r .read .last .1 .0) (s .pre .0) (s .pre .1) (r .read .kept .1 .0) _ (c .brought .result) (c .brought .ensures))
+    (s .pre .0, turn-fills (s .args .run) (now (s .args .input)) (r .read .last .1 .0) (s .pre .0) (s .pre .1) (r .read .kept .1 .0) _ _ (c .brought .result) (c .brought .ensures))
 
 same-length : tie.Need-same-length
 same-length c = search needs
@@ -41,9 +44,9 @@ same-length c = search needs
 returns : tie.Need-returns
 returns c =
     let b = c .before in
-    let r = b .before .before .before .before .before in
+    let r = b .before .before .before .before .before .before in
     let s = r .before .before .before .before in
-    turned (s .args .run) (now (s .args .input)) (r .read .last .1 .0) (s .pre .0) (s .pre .1) (r .read .kept .1 .0) _ (b .brought .result) (b .brought .ensures) (c .after-read .result) (c .after-read .ensures)
+    turned (s .args .run) (now (s .args .input)) (r .read .last .1 .0) (s .pre .0) (s .pre .1) (r .read .kept .1 .0) _ _ (b .brought .result) (b .brought .ensures) (c .after-read .result) (c .after-read .ensures)
 
 pub turn-spec : {M : Type 1} → statement M
 turn-spec =
@@ -53,6 +56,7 @@ turn-spec =
     part-read-start
     part-read-end
     read-requires
+    errno-requires
     sub-brought
     part-brought-start
     part-brought-end

@@ -1,0 +1,48 @@
+-- What the status of an input says of the bytes that its reads have brought. Assumes nothing.
+use mathlib.Core.Path.{_≡_, sym, ap, subst, _∙_}
+use mathlib.Core.Bool.{Bool, true, false, false≢true}
+use mathlib.Core.List.{List}
+use Prim.Native.Nat.{ℕ}
+use native.Mathlib.Decide.{decLt}
+use native.Mathlib.Omega.{arith}
+use lib.ListN.{length}
+use Rattle.sheet_answers.specs.SheetAnswers.{sheetRefusal, respelled}
+use Rattle.sheet_notes.specs.SheetNotes.{refusedNote}
+use Rattle.sheet_main.specs.declared.Answered.{Answered}
+use Rattle.sheet_main.specs.Runs.{gathered, isWhole, Answers, AnswersInput}
+use Rattle.sheet_main.proofs.ChainLaws.{all-kept}
+use Rattle.sheet_main.proofs.ReplyLaws.{good-output, good-note, good-is, bad-output, bad-note, bad-is}
+use Rattle.sheet_main.proofs.StatusLaws.{status-0, status-1}
+
+module _ (sort explain : Bool) (name t : List ℕ) (r : Answered) (a : Answers sort explain name t r) (done : r .left ≡ 0) where
+  all-written : r .refused ≡ false → (sheetRefusal t ≡ 0) × (r .moved ≡ length (respelled sort t))
+  all-written h = elim (decLt 0 (sheetRefusal t)) [
+    | yes l ↦ absurd (false≢true (sym h ∙ a .refused ∙ bad-is sort explain name t (λ z. omega arith)))
+    | no l ↦ let z : sheetRefusal t ≡ 0 = omega arith in
+        (z, omega (arith, done, a .all, ap length (good-output sort explain name t z), ap length (good-note sort explain name t z)))
+  ]
+
+  all-told : r .refused ≡ true → (sheetRefusal t ≡ 0 → ⊥) × (r .moved ≡ length (refusedNote name explain (sheetRefusal t) t))
+  all-told h = elim (decLt 0 (sheetRefusal t)) [
+    | yes l ↦ let z : (sheetRefusal t ≡ 0 → ⊥) = λ z. omega arith in
+        (z, omega (arith, done, a .all, ap length (bad-output sort explain name t z), ap length (bad-note sort explain name t z)))
+    | no l ↦ absurd (false≢true (sym (good-is sort explain name t (omega arith)) ∙ sym (a .refused) ∙ h))
+  ]
+
+module _ (sort explain : Bool) (name : List ℕ) (status : ℕ) (a : AnswersInput sort explain name status) where
+  -- all that the reads have brought is what was answered
+  answers-all : isWhole (a .run .end) ≡ true → Answers sort explain name (gathered (a .reads .chain)) (a .answered)
+  answers-all w = subst (λ t. Answers sort explain name t (a .answered)) (sym (all-kept (a .reads .chain))) (a .answers .whole w)
+
+  pub input-written : status ≡ 0
+      → (sheetRefusal (gathered (a .reads .chain)) ≡ 0) × (a .answered .moved ≡ length (respelled sort (gathered (a .reads .chain))))
+  input-written e =
+      let s = status-0 (a .answered .refused) (a .answered .left) (a .run .end) .0 (sym (a .is) ∙ e) in
+      all-written sort explain name _ (a .answered) (answers-all (s .0)) (s .2) (s .1)
+
+  pub input-refused : status ≡ 1
+      → (sheetRefusal (gathered (a .reads .chain)) ≡ 0 → ⊥)
+      × (a .answered .moved ≡ length (refusedNote name explain (sheetRefusal (gathered (a .reads .chain))) (gathered (a .reads .chain))))
+  input-refused e =
+      let s = status-1 (a .answered .refused) (a .answered .left) (a .run .end) .0 (sym (a .is) ∙ e) in
+      all-told sort explain name _ (a .answered) (answers-all (s .0)) (s .2) (s .1)
