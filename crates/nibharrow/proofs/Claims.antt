@@ -420,7 +420,7 @@ module _ (sorted : ℕ) (t old : List ℕ) where
 
     -- Respelling twice changes nothing, and sorting twice changes nothing: the second call, with any buffer, does what one call does that sorts
     -- where either of both was to.
-    pub respelled-again : (then : ℕ) (buf : List ℕ) → respellInto then seen buf ≡ respellInto (sorted + then) t buf
+    pub respelled-again : (then : ℕ) (buf : List ℕ) → respellInto then seen buf ≡ respellInto (max sorted then) t buf
     unfolding respellInto
     respelled-again then buf =
         let (a, l) = sheets.again asked t old n good (not (eqb then 0)) buf in

@@ -2,8 +2,7 @@
 use mathlib.Core.Path.{_≡_, refl, sym, ap, _∙_}
 use mathlib.Core.Bool.{true, false, cond, not}
 use mathlib.Core.List.{List}
-use Prim.Native.Nat.{ℕ, _+_, _*_, _^_, _<_, min}
-use native.Mathlib.Nat.{zero-add}
+use Prim.Native.Nat.{ℕ, _+_, _*_, _^_, _<_, min, max}
 use native.Mathlib.Decide.{decLe, decLt}
 use native.Mathlib.Omega.{arith}
 use borrow.Author.Tests.{ne-eqb}
@@ -132,9 +131,9 @@ refused-besides n e = rw (nonzero e)
 
 -- ---- a number that asks, or does not
 
--- of two numbers one is above 0 exactly if their sum is
-pub either-asked : (m n : ℕ) → cond (not (eqb m 0)) true (not (eqb n 0)) ≡ not (eqb (m + n) 0)
+-- of two numbers one is above 0 exactly if the larger is
+pub either-asked : (m n : ℕ) → cond (not (eqb m 0)) true (not (eqb n 0)) ≡ not (eqb (max m n) 0)
 either-asked m n = elim (decLt 0 m) [
-  | yes h ↦ rw (ne-eqb m 0 (λ e. omega arith), ne-eqb (m + n) 0 (λ e. omega arith))
-  | no l ↦ let none : m ≡ 0 = omega arith in rw (none, zero-add n)
+  | yes h ↦ rw (ne-eqb m 0 (λ e. omega arith), ne-eqb (max m n) 0 (λ e. omega arith))
+  | no l ↦ let none : m ≡ 0 = omega arith in let other : max m n ≡ n = omega arith in rw (other, none)
 ]

@@ -71,8 +71,11 @@ module _ (sort : Bool) (t old : List ℕ) (n : ℕ) (good : respellAnswer sort t
   pub spelled : Spelled seen
   spelled = respell.seen-spelled sort t old n good
 
-  -- Respelling what was written changes nothing, nor does sorting what was sorted: a second call on it, of either request and with any buffer,
-  -- answers and leaves what the call on the first sheet does that sorts if either does.
+  -- Respelling twice changes nothing, nor does sorting twice: a second call of the same request on what was written writes it again.
+  pub unchanged : (buf : List ℕ) → n ≤ length buf → (respellAnswer sort seen buf ≡ gives n) × (respellLeaves sort seen buf ≡ seen ++ drop n buf)
+  unchanged = respell.unchanged sort t old n good
+
+  -- A second call of either request and with any buffer answers and leaves what the call on the first sheet does that sorts if either does.
   pub again : (then : Bool) (buf : List ℕ)
       → (respellAnswer then seen buf ≡ respellAnswer (cond sort true then) t buf) × (respellLeaves then seen buf ≡ respellLeaves (cond sort true then) t buf)
   again = respell.again sort t old n good

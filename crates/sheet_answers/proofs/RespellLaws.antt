@@ -1,6 +1,6 @@
 -- What a good call has written: what its lines hold, how long it is, and a second call on it. Assumes nothing.
-use mathlib.Core.Path.{_≡_, sym, ap, ap₂, subst, subst₂, _∙_}
-use mathlib.Core.Bool.{Bool, true, cond}
+use mathlib.Core.Path.{_≡_, refl, sym, ap, ap₂, subst, subst₂, _∙_}
+use mathlib.Core.Bool.{Bool, true, false, cond}
 use mathlib.Core.List.{List, [], _++_, map, List·Memᴰ, List·Permᴰ, Memᴰ·map, Memᴰ·of-map, Permᴰ·map}
 use mathlib.Core.Option.{some}
 use Prim.Native.Nat.{ℕ, _*_, _≤_}
@@ -123,6 +123,19 @@ module _ (sort : Bool) (t old : List ℕ) (n : ℕ) (good : respellAnswer sort t
     again =
         let e = seen-fine ∙ sym fine in
         (ap₂ (λ (k : ℕ) u. writeAnswer k u buf) e same, ap₂ (λ (k : ℕ) u. writeLeaves k u buf) e same)
+
+  -- the same request again
+  pub unchanged : (buf : List ℕ) → n ≤ length buf → (respellAnswer sort seen buf ≡ gives n) × (respellLeaves sort seen buf ≡ seen ++ drop n buf)
+  unfolding respellAnswer respellLeaves
+  unchanged buf room =
+      let e = seen-fine sort buf in
+      let text : respelled sort seen ≡ seen = same sort buf ∙ ap (λ b. respelled b t) (either sort) ∙ sym seen-is in
+      let w = write-fits seen buf n (ap length seen-is ∙ sym (good-held .1)) room (seen ++ drop n buf) refl in
+      (ap₂ (λ (k : ℕ) u. writeAnswer k u buf) e text ∙ sym (w .0), ap₂ (λ (k : ℕ) u. writeLeaves k u buf) e text ∙ sym (w .1))
+    where
+      either : (b : Bool) → cond b true b ≡ b
+      either true = refl
+      either false = refl
 
 -- ---- no bytes
 

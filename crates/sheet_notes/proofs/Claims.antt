@@ -94,6 +94,10 @@ pub note-of-2 : refusedNote (ascii "june.csv") false 2 (ascii "x") ≡ ascii "ju
 unfolding refusedNote ascii numeral
 note-of-2 = refl
 
+pub explained-1 : refusedNote (ascii "june.csv") true 1 [] ≡ ascii "june.csv:1: refused 1: the text is longer than the call takes" ++ 10 ∷ []
+unfolding refusedNote ascii numeral refusalWords
+explained-1 = refl
+
 pub explained-2 : refusedNote (ascii "june.csv") true 2 (10 ∷ []) ≡ ascii "june.csv:1: refused 2: the text or the bytes are not of the form asked for" ++ 10 ∷ []
 unfolding refusedNote ascii numeral refusalWords
 explained-2 = refl
