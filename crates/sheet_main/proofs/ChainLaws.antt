@@ -2,22 +2,18 @@
 use mathlib.Core.Path.{_≡_, refl, sym, ap, subst, _∙_}
 use mathlib.Core.Bool.{Bool, true, false, cond}
 use mathlib.Core.List.{List, _++_, append-nil}
-use Prim.Native.Nat.{ℕ, _+_, _-_, _≤_, _<_}
+use Prim.Native.Nat.{ℕ, _+_, _≤_, _<_}
 use native.Mathlib.Omega.{arith}
 use borrow.Author.Tests.{eqb-true, ltb-true, ltb-false}
 use lib.Dec.{eqb, ltb}
-use lib.IntN.{ℤ}
 use lib.ListN.{take, drop}
 use lib.Seq.{take-add}
-use lib.Signed.{nonNeg}
-use Rattle.io.specs.Counts.{clamped}
 use Rattle.program_io.specs.declared.Got.{Got}
 use Rattle.program_io.specs.declared.Got.the-variants.{Bytes, Again, Failed}
-use Rattle.program_io.proofs.Claims.{bytes-exactly, failed-exactly}
 use Rattle.sheet_main.specs.declared.End.{End}
 use Rattle.sheet_main.specs.declared.End.the-variants.{More, Ended, Full, Unread}
 use Rattle.sheet_main.specs.declared.Run.{Run}
-use Rattle.sheet_main.specs.Runs.{reached, afterRead, Chain, none, more, pieceOf, gathered}
+use Rattle.sheet_main.specs.Runs.{reached, afterRead, Chain, none, more, pieceOf, gathered, lastGot}
 use Rattle.sheet_main.proofs.RunLaws.{chain-within}
 
 -- ---- what is read
@@ -46,6 +42,11 @@ code More = 0
 code Ended = 1
 code Full = 2
 code Unread = 3
+
+abbrev kind : Got → ℕ
+kind (Bytes n) = 0
+kind Again = 1
+kind Failed = 2
 
 module _ (n : ℕ) where
   reached-more : reached n .end ≡ More → n < 65537
@@ -122,14 +123,14 @@ room-left (none input) e = omega arith
 room-left (more {run = run} c m t) e =
     subst (λ x. x .len < 65537) (sym (t .next)) (after-more run m (t .got) (room-left c m) (ap (λ x. x .end) (sym (t .next)) ∙ e))
 
--- ended: a read that did not fail brought nothing, though there was room
-pub ended : {n : ℕ} {r : Run} {input : List ℕ} → Chain n r input → r .end ≡ Ended → (r .len < 65537) × ((answer : ℤ) × (nonNeg answer ≡ true) × (0 ≡ clamped answer (65537 - r .len)))
+-- ended: the last read brought nothing, though there was room
+pub ended : {n : ℕ} {r : Run} {input : List ℕ} (c : Chain n r input) → r .end ≡ Ended → (r .len < 65537) × (lastGot c ≡ Bytes 0)
+unfolding lastGot
 ended (none input) e = absurd (omega (arith, ap code e))
 ended (more {run = run} {r = r} c m t) e =
     let a = after-ended run m (t .got) (ap (λ x. x .end) (sym (t .next)) ∙ e) in
     let l : r .len ≡ run .len = ap (λ x. x .len) (t .next) ∙ a .1 in
-    let b = bytes-exactly (t .answer) (t .interrupted) (65537 - run .len) 0 .0 (sym (t .brings) ∙ a .0) in
-    (omega (arith, room-left c m, l), (t .answer, b .0, b .1 ∙ ap (λ (k : ℕ). clamped (t .answer) (65537 - k)) (sym l)))
+    (omega (arith, room-left c m, l), a .0)
 
 -- full: there is one byte more than a sheet may have
 pub full : {n : ℕ} {r : Run} {input : List ℕ} → Chain n r input → r .end ≡ Full → r .len ≡ 65537
@@ -139,9 +140,14 @@ full (more {run = run} {r = r} c m t) e =
     let least = after-full run m (t .got) (ap (λ x. x .end) (sym (t .next)) ∙ e) in
     omega (arith, most, least, ap (λ x. x .len) (t .next))
 
--- unread: a read failed
-pub unread : {n : ℕ} {r : Run} {input : List ℕ} → Chain n r input → r .end ≡ Unread → (answer : ℤ) × (nonNeg answer ≡ false)
+-- unread: the last read failed
+pub unread : {n : ℕ} {r : Run} {input : List ℕ} (c : Chain n r input) → r .end ≡ Unread → lastGot c ≡ Failed
+unfolding lastGot
 unread (none input) e = absurd (omega (arith, ap code e))
-unread (more {run = run} c m t) e =
-    let f = after-unread run m (t .got) (ap (λ x. x .end) (sym (t .next)) ∙ e) in
-    (t .answer, failed-exactly (t .answer) (t .interrupted) (65537 - run .len) .0 (sym (t .brings) ∙ f) .0)
+unread (more {run = run} c m t) e = after-unread run m (t .got) (ap (λ x. x .end) (sym (t .next)) ∙ e)
+
+-- and a read that failed is never the end of an input
+pub failed : {n : ℕ} {r : Run} {input : List ℕ} (c : Chain n r input) → lastGot c ≡ Failed → r .end ≡ Unread
+unfolding lastGot
+failed (none input) e = absurd (omega (arith, ap kind e))
+failed (more {run = run} c m t) e = ap (λ x. x .end) (t .next ∙ ap (afterRead run) e)

@@ -3,17 +3,16 @@ use mathlib.Core.Path.{_≡_}
 use mathlib.Core.Logic.{_↔_, _⊎_}
 use mathlib.Core.Bool.{Bool, true, false}
 use mathlib.Core.List.{List, []}
-use Prim.Native.Nat.{ℕ, _-_, _<_}
-use lib.IntN.{ℤ}
+use Prim.Native.Nat.{ℕ, _<_}
 use lib.ListN.{length, take}
-use lib.Signed.{nonNeg}
-use Rattle.io.specs.Counts.{clamped}
+use Rattle.program_io.specs.declared.Got.the-variants.{Bytes, Failed}
 use Rattle.sheet_answers.specs.SheetAnswers.{sheetRefusal, respelled}
 use Rattle.sheet_notes.specs.SheetNotes.{refusedNote}
 use Rattle.sheet_main.specs.declared.Run.{Run}
 use Rattle.sheet_main.specs.declared.End.{End}
 use Rattle.sheet_main.specs.declared.End.the-variants.{Ended, Full, Unread}
-use Rattle.sheet_main.specs.Runs.{Chain, gathered, isWhole, outputOf, noteOf, isRefused, statusOf, AnswersInput}
+use Rattle.sheet_main.specs.declared.Finished.{Finished}
+use Rattle.sheet_main.specs.Runs.{Chain, gathered, lastGot, isWhole, outputOf, noteOf, isRefused, statusOf, AnswersInput}
 use Rattle.sheet_main.proofs.ChainLaws as chains
 use Rattle.sheet_main.proofs.ReplyLaws as replies
 use Rattle.sheet_main.proofs.StatusLaws as statuses
@@ -26,17 +25,17 @@ module _ {n : ℕ} {r : Run} {input : List ℕ} (c : Chain n r input) where
   pub all-kept : gathered c ≡ take (r .len) input
   all-kept = chains.all-kept c
 
-  -- An input has ended only if a read that did not fail brought nothing, though there was room for a byte,
-  pub ended : r .end ≡ Ended → (r .len < 65537) × ((answer : ℤ) × (nonNeg answer ≡ true) × (0 ≡ clamped answer (65537 - r .len)))
+  -- An input has ended only if the last read did not fail and brought nothing, though there was room for a byte,
+  pub ended : r .end ≡ Ended → (r .len < 65537) × (lastGot c ≡ Bytes 0)
   ended = chains.ended c
 
   -- it is longer than a sheet may be only if 65,537 bytes are read,
   pub full : r .end ≡ Full → r .len ≡ 65537
   full = chains.full c
 
-  -- and it could not be read only if a call failed.
-  pub unread : r .end ≡ Unread → (answer : ℤ) × (nonNeg answer ≡ false)
-  unread = chains.unread c
+  -- and it could not be read exactly if the last read failed: that is never the end.
+  pub unread : (r .end ≡ Unread) ↔ (lastGot c ≡ Failed)
+  unread = (chains.unread c, chains.failed c)
 
 -- ---- what is written
 
@@ -82,14 +81,18 @@ whole-exactly = statuses.whole-exactly
 
 -- ---- an input
 
-module _ (sort explain : Bool) (name : List ℕ) (status : ℕ) (a : AnswersInput sort explain name status) where
+module _ (sort explain : Bool) (name input : List ℕ) (r : Finished) (a : AnswersInput sort explain name input r) where
   -- By status 0 the bytes that the reads have brought are a good sheet, and as many bytes were taken as it has respelled;
-  pub input-written : status ≡ 0
-      → (sheetRefusal (gathered (a .reads .chain)) ≡ 0) × (a .answered .moved ≡ length (respelled sort (gathered (a .reads .chain))))
-  input-written = inputs.input-written sort explain name status a
+  pub input-written : r .status ≡ 0
+      → (sheetRefusal (gathered (a .reads .chain)) ≡ 0) × (r .answered .moved ≡ length (respelled sort (gathered (a .reads .chain))))
+  input-written = inputs.input-written sort explain name input r a
 
   -- by status 1 they are a sheet that is refused, and as many were taken as its note has.
-  pub input-refused : status ≡ 1
+  pub input-refused : r .status ≡ 1
       → (sheetRefusal (gathered (a .reads .chain)) ≡ 0 → ⊥)
-      × (a .answered .moved ≡ length (refusedNote name explain (sheetRefusal (gathered (a .reads .chain))) (gathered (a .reads .chain))))
-  input-refused = inputs.input-refused sort explain name status a
+      × (r .answered .moved ≡ length (refusedNote name explain (sheetRefusal (gathered (a .reads .chain))) (gathered (a .reads .chain))))
+  input-refused = inputs.input-refused sort explain name input r a
+
+  -- Where a read failed nothing of the sheet is written, and the status is 2.
+  pub part-unanswered : lastGot (a .reads .chain) ≡ Failed → (r .status ≡ 2) × (r .answered .moved ≡ 0)
+  part-unanswered = inputs.part-unanswered sort explain name input r a

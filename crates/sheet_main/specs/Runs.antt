@@ -16,6 +16,7 @@ use Rattle.sheet_main.specs.declared.End.the-variants.{More, Ended, Full
 use Rattle.sheet_main.specs.declared.Run.{Run}
 use Rattle.sheet_main.specs.declared.Reply.{Reply}
 use Rattle.sheet_main.specs.declared.Answered.{Answered}
+use Rattle.sheet_main.specs.declared.Finished.{Finished}
 
 -- ---- a turn
 
@@ -66,6 +67,11 @@ pieceOf run Failed input = []
 unfoldable pub gathered : {n : ℕ} {r : Run} {input : List ℕ} → Chain n r input → List ℕ
 gathered (none input) = []
 gathered (more {run = run} {new = new} c m t) = gathered c ++ pieceOf run (t .got) new
+
+-- what the last read has brought; before the first there is none, and one is to be made
+unfoldable pub lastGot : {n : ℕ} {r : Run} {input : List ℕ} → Chain n r input → Got
+lastGot (none input) = Again
+lastGot (more c m t) = t .got
 
 -- An input is done with because it ended, or is longer than a sheet may be, or could not be read; or after more turns than any run takes.
 pub record Reads (turns : ℕ) (run : Run) (input : List ℕ) : Type 0 where
@@ -122,11 +128,7 @@ statusOf Unread refused left = 2
 -- ---- an input
 
 -- An input is read as above, what was read of it is answered, and the status says so.
-pub record AnswersInput (sort explain : Bool) (name : List ℕ) (status : ℕ) : Type 0 where
-  pub turns : ℕ
-  pub run : Run
-  pub input : List ℕ
-  pub answered : Answered
-  pub reads : Reads turns run input
-  pub answers : AnswersRun sort explain name run input answered
-  pub is : status ≡ statusOf (run .end) (answered .refused) (answered .left)
+pub record AnswersInput (sort explain : Bool) (name input : List ℕ) (r : Finished) : Type 0 where
+  pub reads : Reads (r .turns) (r .run) input
+  pub answers : AnswersRun sort explain name (r .run) input (r .answered)
+  pub is : r .status ≡ statusOf (r .run .end) (r .answered .refused) (r .answered .left)

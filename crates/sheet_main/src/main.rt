@@ -61,6 +61,14 @@ pub struct Answered {
     pub left: usize,
 }
 
+// An input that is answered: how it was read, after how many turns, what was answered, and the status.
+pub struct Finished {
+    pub run: Run,
+    pub turns: u64,
+    pub answered: Answered,
+    pub status: u8,
+}
+
 // What is asked for.
 struct Options {
     sorted: bool,
@@ -294,16 +302,31 @@ fn judge(end: End, answered: Answered, name: &[u8]) -> u8
 }
 
 // Reads an input and answers it.
+fn answer_read(fd: i32, options: Options, name: &[u8], input: &mut [u8]) -> Finished
+    requires { ⌜ (length (now name) ≤ 4096) × (length (now input) ≡ 65537) ⌝ }
+    ensures { λ r. ⌜ AnswersInput (options .sorted) (options .explain) (now (name .entry)) (now (input .exit)) r ⌝ }
+{
+    let outcome = read_all(fd, input, name);
+    let run = outcome.run;
+    let turns = outcome.turns;
+    let answered = answer_run(run, input, options, name);
+    let end = run.end;
+    let status = judge(end, answered, name);
+    Finished {
+        run,
+        turns,
+        answered,
+        status,
+    }
+}
+
+// The status of an input.
 fn answer_input(fd: i32, options: Options, name: &[u8]) -> u8
     requires { ⌜ length (now name) ≤ 4096 ⌝ }
-    ensures { λ r. ⌜ AnswersInput (options .sorted) (options .explain) (now (name .entry)) r ⌝ }
 {
     let mut input = [0u8; 65537];
-    let outcome = read_all(fd, &mut input, name);
-    let run = outcome.run;
-    let answered = answer_run(run, &input, options, name);
-    let end = run.end;
-    judge(end, answered, name)
+    let finished = answer_read(fd, options, name, &mut input);
+    finished.status
 }
 
 // The file that the third argument names.
