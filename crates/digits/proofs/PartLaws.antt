@@ -9,8 +9,8 @@ use native.Mathlib.Decide.{decLe}
 use native.Mathlib.Omega.{arith}
 use borrow.Author.Tests.{lt-ltb, le-ltb, lt-leb, le-leb, eq-eqb, ne-eqb, ltb-true}
 use lib.Dec.{ltb, leb, eqb}
-use lib.ListN.{length, take, drop, getD, length-drop, drop-of-length-le}
-use lib.Seq.{drop-cons, getD-drop, length-take-le}
+use lib.ListN.{length, take, drop, getD, length-take, length-drop, drop-of-length-le}
+use lib.Seq.{drop-cons, getD-drop, getD-take, length-take-le}
 use Rattle.notation.specs.Ascii.{within}
 use Rattle.notation.proofs.AsciiLaws.{within-exactly}
 use Rattle.digits.specs.declared.read.Leading.the-variants.{Nothing}
@@ -94,20 +94,24 @@ no-start (c ∷ t) h = go (ltb (digitOf c) 10) refl h
 
 -- ---- decimal parts
 
-zero-long : (n : ℕ) (t : List ℕ) → 2 ≤ n → n ≤ length t → leadingZero (take n t) ≡ eqb (getD t 0 0) 48
+-- a leading zero, by the first two bytes
+pub lead-short : (t : List ℕ) → length t < 2 → leadingZero t ≡ false
 unfolding leadingZero
-zero-long zero t h l = absurd (omega arith)
-zero-long (suc zero) t h l = absurd (omega arith)
-zero-long (suc (suc n)) [] h l = absurd (omega arith)
-zero-long (suc (suc n)) (c ∷ []) h l = absurd (omega arith)
-zero-long (suc (suc n)) (c ∷ d ∷ t) h l = refl
+lead-short [] h = refl
+lead-short (c ∷ []) h = refl
+lead-short (c ∷ d ∷ t) h = absurd (omega arith)
+
+pub lead-first : (t : List ℕ) → 2 ≤ length t → leadingZero t ≡ eqb (getD t 0 0) 48
+unfolding leadingZero
+lead-first [] h = absurd (omega arith)
+lead-first (c ∷ []) h = absurd (omega arith)
+lead-first (c ∷ d ∷ t) h = refl
+
+zero-long : (n : ℕ) (t : List ℕ) → 2 ≤ n → n ≤ length t → leadingZero (take n t) ≡ eqb (getD t 0 0) 48
+zero-long n t h l = lead-first (take n t) (omega (arith, length-take-le n t l)) ∙ ap (λ (c : ℕ). eqb c 48) (getD-take n t 0 0 (omega arith))
 
 zero-short : (n : ℕ) (t : List ℕ) → n ≤ 1 → leadingZero (take n t) ≡ false
-unfolding leadingZero
-zero-short zero t h = refl
-zero-short (suc zero) [] h = refl
-zero-short (suc zero) (c ∷ t) h = refl
-zero-short (suc (suc n)) t h = absurd (omega arith)
+zero-short n t h = lead-short (take n t) (omega (arith, length-take n t))
 
 module _ (t : List ℕ) where
   pub decimal-more : (v i : ℕ) → Scan 10 t v i → decimalOf (drop i t) ≤ 9 → Scan 10 t (v * 10 + decimalOf (drop i t)) (i + 1)

@@ -5,13 +5,13 @@ use mathlib.Core.List.{List, [], _∷_, _++_, append-nil}
 use Prim.Native.Nat.{ℕ, _+_, _-_, _≤_, _<_}
 use native.Mathlib.Decide.{decLt}
 use native.Mathlib.Omega.{arith}
-use borrow.Author.Tests.{eq-eqb, ne-eqb, eqb-true, eqb-false}
+use borrow.Author.Tests.{eqb-true, eqb-false}
 use lib.Dec.{eqb}
 use Rattle.address.specs.declared.Address.{Address}
 use Rattle.address.specs.declared.Address.the-variants.{V4, V6}
 use Rattle.address.specs.Addresses.{family, number, IsAddress}
 use Rattle.stable_sort.specs.Stable.{From, Rising, withKey, sortBy}
-use Rattle.stable_sort.proofs.StableLaws.{from-less, with-yes, with-no, sort-is, rising-only}
+use Rattle.stable_sort.proofs.StableLaws.{from-less, from-zero, from-append, with-yes, with-no, with-append, sort-is, rising-only}
 use Rattle.sheet_lines.specs.declared.Entry.{Entry}
 use Rattle.sheet_answers.specs.Sheets.{place, entryPlace, sorted, AllEntries}
 use Rattle.sheet_answers.proofs.ArrangedLaws.{perm-all}
@@ -20,6 +20,9 @@ use Rattle.sheet.specs.Inner.{ofFamily}
 -- the number of an entry's address, whatever its family
 abbrev pub entryNumber : Entry → ℕ
 entryNumber e = number (e .address)
+
+abbrev entryFamily : Entry → ℕ
+entryFamily e = family (e .address)
 
 -- ---- the place of an address
 
@@ -45,18 +48,9 @@ high-only k l (V6 hi lo) h e = refl
 
 -- ---- one family
 
-module _ (f : ℕ) (e : Entry) (es : List Entry) where
-  family-yes : family (e .address) ≡ f → ofFamily f (e ∷ es) ≡ e ∷ ofFamily f es
-  unfolding ofFamily
-  family-yes h = rw (eq-eqb (family (e .address)) f h)
-
-  family-no : ¬ (family (e .address) ≡ f) → ofFamily f (e ∷ es) ≡ ofFamily f es
-  unfolding ofFamily
-  family-no n = rw (ne-eqb (family (e .address)) f n)
-
 module _ (f shift : ℕ) (law : (a : Address) → family a ≡ f → place a ≡ shift + number a) where
   family-from : (k : ℕ) (es : List Entry) → From entryNumber k es → From entryPlace (shift + k) (ofFamily f es)
-  unfolding ofFamily
+  unfolding withKey
   family-from k [] h = tt
   family-from k (e ∷ es) h = go (eqb (family (e .address)) f) refl (family-from k es (h .1))
     where
@@ -65,7 +59,7 @@ module _ (f shift : ℕ) (law : (a : Address) → family a ≡ f → place a ≡
       go false q r = r
 
   family-rising : (es : List Entry) → Rising entryNumber es → Rising entryPlace (ofFamily f es)
-  unfolding ofFamily
+  unfolding withKey
   family-rising [] h = tt
   family-rising (e ∷ es) h = go (eqb (family (e .address)) f) refl (family-rising es (h .1))
     where
@@ -77,7 +71,7 @@ module _ (f shift : ℕ) (law : (a : Address) → family a ≡ f → place a ≡
 
   -- those of one place are those of one number
   family-with : (k : ℕ) (es : List Entry) → withKey entryPlace (shift + k) (ofFamily f es) ≡ ofFamily f (withKey entryNumber k es)
-  unfolding ofFamily withKey
+  unfolding withKey
   family-with k [] = refl
   family-with k (e ∷ es) = go (eqb (family (e .address)) f) (eqb (entryNumber e) k) refl refl (family-with k es)
     where
@@ -87,18 +81,18 @@ module _ (f shift : ℕ) (law : (a : Address) → family a ≡ f → place a ≡
           let is = law (e .address) (eqb-true (family (e .address)) f p) in
           with-yes entryPlace (shift + k) e (ofFamily f es) (omega (arith, eqb-true (entryNumber e) k q))
           ∙ ap (λ l. e ∷ l) ih
-          ∙ sym (family-yes f e (withKey entryNumber k es) (eqb-true (family (e .address)) f p))
+          ∙ sym (with-yes entryFamily f e (withKey entryNumber k es) (eqb-true (family (e .address)) f p))
       go true false p q ih =
           let is = law (e .address) (eqb-true (family (e .address)) f p) in
           with-no entryPlace (shift + k) e (ofFamily f es) (λ z. eqb-false (entryNumber e) k q (omega arith)) ∙ ih
-      go false true p q ih = ih ∙ sym (family-no f e (withKey entryNumber k es) (eqb-false (family (e .address)) f p))
+      go false true p q ih = ih ∙ sym (with-no entryFamily f e (withKey entryNumber k es) (eqb-false (family (e .address)) f p))
       go false false p q ih = ih
 
 -- ---- those of one place, among all and in one family
 
 module _ (f k : ℕ) where
   all-of : ((a : Address) → IsAddress a → place a ≡ k → family a ≡ f) → (es : List Entry) → AllEntries es → withKey entryPlace k (ofFamily f es) ≡ withKey entryPlace k es
-  unfolding ofFamily withKey
+  unfolding withKey
   all-of only [] h = refl
   all-of only (e ∷ es) h = go (eqb (family (e .address)) f) (eqb (entryPlace e) k) refl refl (all-of only es (h .1))
     where
@@ -110,7 +104,7 @@ module _ (f k : ℕ) where
       go false false p q ih = ih
 
   none-of : ((a : Address) → IsAddress a → place a ≡ k → ¬ (family a ≡ f)) → (es : List Entry) → AllEntries es → withKey entryPlace k (ofFamily f es) ≡ []
-  unfolding ofFamily withKey
+  unfolding withKey
   none-of other [] h = refl
   none-of other (e ∷ es) h = go (eqb (family (e .address)) f) refl (none-of other es (h .1))
     where
@@ -119,27 +113,13 @@ module _ (f k : ℕ) where
           with-no entryPlace k e (ofFamily f es) (λ z. other (e .address) (h .0 .address) z (eqb-true (family (e .address)) f p)) ∙ ih
       go false p ih = ih
 
-with-append : (k : ℕ) (xs ys : List Entry) → withKey entryPlace k (xs ++ ys) ≡ withKey entryPlace k xs ++ withKey entryPlace k ys
-unfolding withKey
-with-append k [] ys = refl
-with-append k (x ∷ xs) ys = go (eqb (entryPlace x) k) (with-append k xs ys)
-  where
-    go : (b : Bool) → withKey entryPlace k (xs ++ ys) ≡ withKey entryPlace k xs ++ withKey entryPlace k ys
-        → cond b (x ∷ withKey entryPlace k (xs ++ ys)) (withKey entryPlace k (xs ++ ys)) ≡ cond b (x ∷ withKey entryPlace k xs) (withKey entryPlace k xs) ++ withKey entryPlace k ys
-    go true ih = ap (λ l. x ∷ l) ih
-    go false ih = ih
-
 -- ---- both families
 
 abbrev pub byFamily : List Entry → List Entry
 byFamily es = ofFamily 4 es ++ ofFamily 6 es
 
-from-append : (k : ℕ) (xs ys : List Entry) → From entryPlace k xs → From entryPlace k ys → From entryPlace k (xs ++ ys)
-from-append k [] ys f g = g
-from-append k (x ∷ xs) ys f g = (f .0, from-append k xs ys (f .1) g)
-
 glue : (es zs : List Entry) → AllEntries es → Rising entryPlace (ofFamily 4 es) → From entryPlace 4294967296 zs → Rising entryPlace zs → Rising entryPlace (ofFamily 4 es ++ zs)
-unfolding ofFamily
+unfolding withKey
 glue [] zs a r f g = g
 glue (e ∷ es) zs a r f g = go (eqb (family (e .address)) 4) refl r (λ h. glue es zs (a .1) h f g)
   where
@@ -147,17 +127,13 @@ glue (e ∷ es) zs a r f g = go (eqb (family (e .address)) 4) refl r (λ h. glue
         → Rising entryPlace (cond b (e ∷ ofFamily 4 es) (ofFamily 4 es) ++ zs)
     go true q h ih =
         let low = low-4 (e .address) (a .0 .address) (eqb-true (family (e .address)) 4 q) in
-        (from-append (entryPlace e) (ofFamily 4 es) zs (h .0) (from-less entryPlace (entryPlace e) 4294967296 zs low f), ih (h .1))
+        (from-append entryPlace (entryPlace e) (ofFamily 4 es) zs (h .0) (from-less entryPlace (entryPlace e) 4294967296 zs low f), ih (h .1))
     go false q h ih = ih h
-
-from-zero : (es : List Entry) → From entryNumber 0 es
-from-zero [] = tt
-from-zero (e ∷ es) = (omega arith, from-zero es)
 
 module _ (es ys : List Entry) (valid : AllEntries es) (valid-too : AllEntries ys) (rises : Rising entryNumber ys) (old : (k : ℕ) → withKey entryNumber k ys ≡ withKey entryNumber k es) where
   families-rising : Rising entryPlace (byFamily ys)
   families-rising =
-      let from : From entryPlace 4294967296 (ofFamily 6 ys) = family-from 6 4294967296 place-6 0 ys (from-zero ys) in
+      let from : From entryPlace 4294967296 (ofFamily 6 ys) = family-from 6 4294967296 place-6 0 ys (from-zero entryNumber ys) in
       glue ys (ofFamily 6 ys) valid-too (family-rising 4 0 place-4 ys rises) from (family-rising 6 4294967296 place-6 ys rises)
 
   family-same : (f shift : ℕ) (law : (a : Address) → family a ≡ f → place a ≡ shift + number a) (k : ℕ)
@@ -171,7 +147,7 @@ module _ (es ys : List Entry) (valid : AllEntries es) (valid-too : AllEntries ys
         let four : withKey entryPlace k (ofFamily 4 ys) ≡ withKey entryPlace k es =
         ap (λ (n : ℕ). withKey entryPlace n (ofFamily 4 ys)) (sym here) ∙ family-same 4 0 place-4 k ∙ ap (λ (n : ℕ). withKey entryPlace n (ofFamily 4 es)) here ∙ all-of 4 k (low-only k l) es valid in
         let six : withKey entryPlace k (ofFamily 6 ys) ≡ [] = none-of 6 k (λ a h e z. omega (arith, low-only k l a h e)) ys valid-too in
-        with-append k (ofFamily 4 ys) (ofFamily 6 ys) ∙ ap₂ _++_ four six ∙ append-nil (withKey entryPlace k es)
+        with-append entryPlace k (ofFamily 4 ys) (ofFamily 6 ys) ∙ ap₂ _++_ four six ∙ append-nil (withKey entryPlace k es)
     | no n ↦
         let high : 4294967296 ≤ k = omega arith in
         let here : 4294967296 + (k - 4294967296) ≡ k = omega arith in
@@ -179,7 +155,7 @@ module _ (es ys : List Entry) (valid : AllEntries es) (valid-too : AllEntries ys
         let six : withKey entryPlace k (ofFamily 6 ys) ≡ withKey entryPlace k es =
         ap (λ (m : ℕ). withKey entryPlace m (ofFamily 6 ys)) (sym here) ∙ family-same 6 4294967296 place-6 (k - 4294967296) ∙ ap (λ (m : ℕ). withKey entryPlace m (ofFamily 6 es)) here
         ∙ all-of 6 k (high-only k high) es valid in
-        with-append k (ofFamily 4 ys) (ofFamily 6 ys) ∙ ap₂ _++_ four six
+        with-append entryPlace k (ofFamily 4 ys) (ofFamily 6 ys) ∙ ap₂ _++_ four six
   ]
 
   families-sorted : byFamily ys ≡ sortBy entryPlace es

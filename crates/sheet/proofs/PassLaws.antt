@@ -14,7 +14,7 @@ use lib.ListN.{length, getD, set, take}
 use lib.Seq.{take-suc-set}
 use Rattle.notation.specs.Pieces.{indexOf}
 use Rattle.notation.proofs.OptionLaws.{impossible}
-use Rattle.notation.proofs.SliceLaws.{tail, to-end-less}
+use Rattle.notation.proofs.SliceLaws.{tail, to-end-less, none-left}
 use Rattle.address.specs.Addresses.{number}
 use Rattle.stable_sort.specs.Indices.{upTo}
 use Rattle.sheet_lines.specs.declared.Entry.{Entry}
@@ -27,10 +27,6 @@ use Rattle.sheet_answers.proofs.LineLaws.{found-entries, found-lines, last-entr
 use Rattle.sheet.specs.Inner.{rowEntry, rowsOf, Keyed, HasRow, Stored, finishedEntry, ReadsRows}
 use Rattle.sheet.specs.declared.Rows.the-variants.{Count}
 use Rattle.sheet.proofs.RowLaws.{other-row, this-row}
-
-none-left : (t : List ℕ) → length t ≤ 0 → [] ≡ t
-none-left [] h = refl
-none-left (x ∷ t) h = absurd (omega arith)
 
 -- ---- the indices, as they come
 

@@ -12,6 +12,7 @@ use lib.Seq.{drop-cons}
 use Rattle.address.specs.Addresses.{family}
 use Rattle.output.specs.Placing.{Puts}
 use Rattle.output.proofs.PlacingLaws.{puts-then, puts-none}
+use Rattle.stable_sort.specs.Stable.{withKey}
 use Rattle.sheet_lines.specs.declared.Entry.{Entry}
 use Rattle.sheet_lines.specs.Lines.{entryLine}
 use Rattle.sheet_answers.specs.Sheets.{sheetText}
@@ -30,11 +31,11 @@ module _ (f : ℕ) (e : Entry) where
 
   module _ (n : ¬ (f ≡ 0)) where
     pub line-wanted : family (e .address) ≡ f → sheetText (askedFor f (e ∷ [])) ≡ entryLine e
-    unfolding askedFor ofFamily
+    unfolding askedFor withKey
     line-wanted h = rw (ne-eqb f 0 n, eq-eqb (family (e .address)) f h) (one-line e)
 
     pub line-other : ¬ (family (e .address) ≡ f) → sheetText (askedFor f (e ∷ [])) ≡ []
-    unfolding askedFor ofFamily sheetText
+    unfolding askedFor withKey sheetText
     line-other m = rw (ne-eqb f 0 n, ne-eqb (family (e .address)) f m)
 
 -- ---- one after the other
@@ -45,7 +46,7 @@ text-append [] fs = refl
 text-append (e ∷ es) fs = ap (λ r. entryLine e ++ r) (text-append es fs) ∙ sym (append-assoc (entryLine e) (sheetText es) (sheetText fs))
 
 asked-cons : (f : ℕ) (e : Entry) (es : List Entry) → askedFor f (e ∷ es) ≡ askedFor f (e ∷ []) ++ askedFor f es
-unfolding askedFor ofFamily
+unfolding askedFor withKey
 asked-cons f e es = go (eqb f 0) (eqb (family (e .address)) f)
   where
     go : (b c : Bool) → cond b (e ∷ es) (cond c (e ∷ ofFamily f es) (ofFamily f es)) ≡ cond b (e ∷ []) (cond c (e ∷ []) []) ++ cond b es (ofFamily f es)
@@ -54,7 +55,7 @@ asked-cons f e es = go (eqb f 0) (eqb (family (e .address)) f)
     go false false = refl
 
 asked-none : (f : ℕ) → sheetText (askedFor f []) ≡ []
-unfolding askedFor ofFamily sheetText
+unfolding askedFor withKey sheetText
 asked-none f = go (eqb f 0)
   where
     go : (b : Bool) → sheetText (cond b [] []) ≡ []

@@ -12,6 +12,7 @@ use Rattle.address.specs.declared.Address.the-variants.{V4, V6}
 use Rattle.address.specs.declared.Refusal.{Refusal}
 use Rattle.address.specs.declared.Refusal.the-variants.{Malformed, TooMany}
 use Rattle.address.specs.Addresses.{family, number}
+use Rattle.stable_sort.specs.Stable.{withKey}
 use Rattle.stable_sort.specs.Indices.{upTo}
 use Rattle.sheet_lines.specs.declared.Entry.{Entry}
 use Rattle.sheet_lines.specs.Lines.{lineEntry}
@@ -96,11 +97,10 @@ pub record Picks (hi lo families readings order : List ℕ) : Type 0 where
   pub few : length order ≤ length readings
 
 -- the entries of a family, in their order
-unfoldable pub ofFamily : ℕ → List Entry → List Entry
-ofFamily f [] = []
-ofFamily f (e ∷ es) = cond (eqb (family (e .address)) f) (e ∷ ofFamily f es) (ofFamily f es)
+abbrev pub ofFamily : ℕ → List Entry → List Entry
+ofFamily f es = withKey (λ (e : Entry). family (e .address)) f es
 
 -- those of the family asked for; "Family 0 means either"
 unfoldable pub askedFor : ℕ → List Entry → List Entry
-unfolding ofFamily
+unfolding withKey
 askedFor f es = cond (eqb f 0) es (ofFamily f es)

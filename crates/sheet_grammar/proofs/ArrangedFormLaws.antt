@@ -14,12 +14,12 @@ use Rattle.sheet_lines.specs.Lines.{IsEntry}
 use Rattle.sheet_answers.specs.Sheets.{AllEntries, place, entryPlace, sorted, arranged}
 use Rattle.sheet_answers.proofs.PlaceLaws.{place-only}
 use Rattle.sheet_answers.proofs.ArrangedLaws.{perm-all, arranged-all, sorted-is, sorted-only}
-use Rattle.sheet_grammar.specs.SheetForm.{in-order, no-next, last-one, then-next, lacks-address, none-has, nor-this, used-in-turn, none-left, and-used, Arranged, as-given, by-address}
+use Rattle.sheet_grammar.specs.SheetForm.{in-address-order, no-next, last-one, then-next, lacks-address, none-has, nor-this, used-in-turn, none-left, and-used, Arranged, as-given, by-address}
 use Rattle.sheet_grammar.proofs.AddressOrderLaws.{not-after-place, place-not-after}
 
 -- ---- in order
 
-order-rising : {es : List Entry} → in-order es → AllEntries es → Rising entryPlace es
+order-rising : {es : List Entry} → in-address-order es → AllEntries es → Rising entryPlace es
 order-rising no-next all = tt
 order-rising last-one all = (tt, tt)
 order-rising (then-next {e} {f} {es} n o) all =
@@ -27,7 +27,7 @@ order-rising (then-next {e} {f} {es} n o) all =
     let next = not-after-place {a = e .address} {b = f .address} (all .0 .address) (all .1 .0 .address) n in
     ((next, from-less entryPlace (entryPlace e) (entryPlace f) es next (rest .0)), rest)
 
-rising-order : (es : List Entry) → AllEntries es → Rising entryPlace es → in-order es
+rising-order : (es : List Entry) → AllEntries es → Rising entryPlace es → in-address-order es
 rising-order [] all r = no-next
 rising-order (e ∷ []) all r = last-one
 rising-order (e ∷ f ∷ es) all r =

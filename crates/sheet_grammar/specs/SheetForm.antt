@@ -76,10 +76,10 @@ pub data not-after : Address → Address → Type 0 where
   upper-equal : {hi lo i k : ℕ} → hi ≡ i → lo ≤ k → not-after (V6 hi lo) (V6 i k)
 
 -- no entry comes after the next
-pub data in-order : List Entry → Type 0 where
-  no-next : in-order []
-  last-one : {e : Entry} → in-order (e ∷ [])
-  then-next : {e f : Entry} {es : List Entry} → not-after (e .address) (f .address) → in-order (f ∷ es) → in-order (e ∷ f ∷ es)
+pub data in-address-order : List Entry → Type 0 where
+  no-next : in-address-order []
+  last-one : {e : Entry} → in-address-order (e ∷ [])
+  then-next : {e f : Entry} {es : List Entry} → not-after (e .address) (f .address) → in-address-order (f ∷ es) → in-address-order (e ∷ f ∷ es)
 
 -- no entry has the address
 pub data lacks-address (a : Address) : List Entry → Type 0 where
@@ -97,7 +97,7 @@ pub data Arranged : Bool → List Entry → List Entry → Type 0 where
   -- "Unsorted lines stay in order."
   as-given : {es : List Entry} → Arranged false es es
   -- "on request sorts whole lines by address"
-  by-address : {es fs : List Entry} → used-in-turn es fs → in-order fs → Arranged true es fs
+  by-address : {es fs : List Entry} → used-in-turn es fs → in-address-order fs → Arranged true es fs
 
 -- ---- the call
 

@@ -17,7 +17,7 @@ use output::put;
 use output::put_if;
 use text::read_address;
 
-// What a line holds: an address, a volume from 1 to 999,999, and a pH in hundredths from 0 to 1400. Any value may be made.
+// What a line holds: an address, a volume from 1 to 999,999, and a pH in hundredths from 0 to 1400. The fields of a value are not checked.
 pub struct Entry {
     pub address: Address,
     pub volume: u32,

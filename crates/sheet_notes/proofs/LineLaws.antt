@@ -13,11 +13,12 @@ use lib.Seq.{take-suc, take-all}
 use Rattle.notation.specs.Pieces.{Lacks, indexOf, splitOn}
 use Rattle.notation.proofs.PieceLaws.{split-found, split-last, split-first}
 use Rattle.notation.proofs.SeparatedLaws.{index-seam, seam}
-use Rattle.notation.proofs.SliceLaws.{tail, to-end}
+use Rattle.notation.proofs.SliceLaws.{tail, to-end, none-left}
 use Rattle.sheet_lines.specs.declared.Entry.{Entry}
 use Rattle.sheet_lines.specs.declared.LineReading.{LineReading}
 use Rattle.sheet_lines.specs.declared.LineReading.the-variants.{Line, NoLine}
 use Rattle.sheet_lines.specs.Lines.{fieldsEntry, lineEntry, asLine}
+use Rattle.sheet_lines.proofs.EntryLaws.{line-says, no-line-says}
 use Rattle.sheet_answers.specs.SheetAnswers.{mostBytes, mostLines}
 use Rattle.sheet_notes.specs.SheetNotes.{newlines, excessLine, oneMore, goodLines, malformedLine, faultLine}
 
@@ -124,21 +125,6 @@ pub pass-start : (t : List ℕ) → Passed t t 1
 unfolding malformedLine
 pass-start t = record { short = omega arith; is = omega arith }
 
-none-left : (t : List ℕ) → length t ≤ 0 → [] ≡ t
-none-left [] h = refl
-none-left (x ∷ t) h = absurd (omega arith)
-
-read-as : {e : Entry} {o : Option Entry} → Line e ≡ asLine o → o ≡ some e
-read-as {e} {o} h = go o h
-  where
-    go : (o : Option Entry) → Line e ≡ asLine o → o ≡ some e
-    go none h = let z : _≡_ {A = ℕ} 0 1 = cc in absurd (omega arith)
-    go (some f) h = cc
-
-not-read : (o : Option Entry) → NoLine ≡ asLine o → o ≡ none
-not-read none h = refl
-not-read (some f) h = let z : _≡_ {A = ℕ} 0 1 = cc in absurd (omega arith)
-
 module _ {t rest : List ℕ} {line : ℕ} (p : Passed t rest line) where
   pub pass-done : length rest ≤ 0 → line ≡ malformedLine t
   pass-done h = omega (arith, p .is, ap good (none-left rest h), good-none)
@@ -149,11 +135,11 @@ module _ {t rest : List ℕ} {line : ℕ} (p : Passed t rest line) where
 
     module _ (h : i < length rest) {r : LineReading} (reads : r ≡ asLine (lineEntry (take i rest))) where
       pub pass-bad : r ≡ NoLine → line ≡ malformedLine t
-      pass-bad e = omega (arith, p .is, good-found rest i at h, ap (λ o. oneMore o (good (tail (i + 1) rest))) (not-read (lineEntry (take i rest)) (sym e ∙ reads)))
+      pass-bad e = omega (arith, p .is, good-found rest i at h, ap (λ o. oneMore o (good (tail (i + 1) rest))) (no-line-says (lineEntry (take i rest)) (sym e ∙ reads)))
 
       pub pass-on : (e : Entry) → r ≡ Line e → Passed t (tail (i + 1) rest) (line + 1)
       pass-on e l =
-          let o = read-as {o = lineEntry (take i rest)} (sym l ∙ reads) in
+          let o = line-says (lineEntry (take i rest)) e (sym l ∙ reads) in
           let some-bytes = line-bytes (take i rest) e o in
           record {
             short = omega (arith, p .short, some-bytes, length-take i rest, ap length (to-end (i + 1) rest), length-drop (i + 1) rest);

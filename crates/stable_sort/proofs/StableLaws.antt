@@ -1,7 +1,7 @@
 -- Putting a list in the order of its keys: it is done by insertion, and there is one way to do it. Assumes nothing.
 use mathlib.Core.Path.{_≡_, refl, sym, ap, ap₂, _∙_}
 use mathlib.Core.Bool.{Bool, true, false, cond}
-use mathlib.Core.List.{List, [], _∷_, List·Permᴰ, List·Permᴰ·nil, List·Permᴰ·cons, List·Permᴰ·swap, List·Permᴰ·trans, Permᴰ·refl}
+use mathlib.Core.List.{List, [], _∷_, _++_, List·Permᴰ, List·Permᴰ·nil, List·Permᴰ·cons, List·Permᴰ·swap, List·Permᴰ·trans, Permᴰ·refl}
 use Prim.Native.Nat.{ℕ, zero, suc, _≤_, _<_}
 use native.Mathlib.Decide.{decLe, ℕ-discrete}
 use native.Mathlib.Omega.{arith}
@@ -17,7 +17,15 @@ module _ {A : Type 0} (key : A → ℕ) where
   from-less j k [] h f = tt
   from-less j k (x ∷ xs) h f = let g = f .0 in (omega arith, from-less j k xs h (f .1))
 
-  -- where every key is above k, none is k
+  pub from-zero : (xs : List A) → From key 0 xs
+  from-zero [] = tt
+  from-zero (x ∷ xs) = (omega arith, from-zero xs)
+
+  pub from-append : (k : ℕ) (xs ys : List A) → From key k xs → From key k ys → From key k (xs ++ ys)
+  from-append k [] ys f g = g
+  from-append k (x ∷ xs) ys f g = (f .0, from-append k xs ys (f .1) g)
+
+  -- where no key is below k, none is a number below k
   pub none-with : (k : ℕ) (xs : List A) → From key k xs → (j : ℕ) → j < k → withKey key j xs ≡ []
   unfolding withKey
   none-with k [] f j h = refl
@@ -35,6 +43,16 @@ module _ {A : Type 0} (key : A → ℕ) where
   pub with-tail : (k : ℕ) (x : A) (xs ys : List A) → withKey key k xs ≡ withKey key k ys → withKey key k (x ∷ xs) ≡ withKey key k (x ∷ ys)
   unfolding withKey
   with-tail k x xs ys e = ap (λ w. cond (eqb (key x) k) (x ∷ w) w) e
+
+  pub with-append : (k : ℕ) (xs ys : List A) → withKey key k (xs ++ ys) ≡ withKey key k xs ++ withKey key k ys
+  unfolding withKey
+  with-append k [] ys = refl
+  with-append k (x ∷ xs) ys = go (eqb (key x) k) (with-append k xs ys)
+    where
+      go : (b : Bool) → withKey key k (xs ++ ys) ≡ withKey key k xs ++ withKey key k ys
+          → cond b (x ∷ withKey key k (xs ++ ys)) (withKey key k (xs ++ ys)) ≡ cond b (x ∷ withKey key k xs) (withKey key k xs) ++ withKey key k ys
+      go true ih = ap (λ l. x ∷ l) ih
+      go false ih = ih
 
   -- ---- rising, place by place
 
@@ -126,7 +144,7 @@ module _ {A : Type 0} (key : A → ℕ) where
 
   -- ---- one way alone
 
-  -- of two rising lists with the same elements of each key, the first begins with a key no higher than the second's
+  -- of two lists with the same elements of each key, one that rises begins with a key no higher than the other's first
   low-first : (x y : A) (xs ys : List A) → Rising key (y ∷ ys) → ((k : ℕ) → withKey key k (x ∷ xs) ≡ withKey key k (y ∷ ys)) → key y ≤ key x
   low-first x y xs ys r e = elim (decLe (key y) (key x)) [
     | yes h ↦ h

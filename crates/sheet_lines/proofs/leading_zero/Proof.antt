@@ -2,7 +2,7 @@
 use mathlib.Core.Path.{sym}
 use borrow.Author.Needs.{needs}
 use denote.Ref.{now}
-use Rattle.sheet_lines.proofs.LeadLaws.{lead-short, lead-first}
+use Rattle.digits.proofs.PartLaws.{lead-short, lead-first}
 use Rattle.sheet_lines.proofs.leading_zero.Statement.{statement}
 use Rattle.sheet_lines.proofs.leading_zero.Tie as tie
 

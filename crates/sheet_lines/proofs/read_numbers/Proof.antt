@@ -22,14 +22,14 @@ returns : tie.Need-returns
 returns c =
     let w = c .before .before in
     let a = w .before .before .before .args in
-    rw (volume-none (now (a .volume)) (as-nothing _ _ (sym (c .enum-told .given .1) ∙ w .whole-number .ensures)))
+    rw (volume-none (now (a .volume)) (as-nothing (numberTo 999999 (now (a .volume))) _ (sym (c .enum-told .given .1) ∙ w .whole-number .ensures)))
 
 returns-2 : tie.Need-returns-2
 returns-2 c =
     let v = c .before .before in
     let w = v .before .before in
     let a = w .before .before .before .args in
-    rw (volume-zero (now (a .volume)) _ (as-number _ _ _ _ (sym (v .v .given .1) ∙ w .whole-number .ensures) .0) (c .if1 .taken))
+    rw (volume-zero (now (a .volume)) _ (as-number (numberTo 999999 (now (a .volume))) _ _ _ (sym (v .v .given .1) ∙ w .whole-number .ensures) .0) (c .if1 .taken))
 
 whole-number-requires-2 : tie.Need-whole-number-requires-2
 whole-number-requires-2 c κs = search needs
@@ -47,7 +47,7 @@ returns-3 c =
     let w = v .before .before in
     let a = w .before .before .before .args in
     rw (
-      volume-some (now (a .volume)) _ (as-number _ _ _ _ (sym (v .v .given .1) ∙ w .whole-number .ensures) .0) (q .before .if1 .left),
+      volume-some (now (a .volume)) _ (as-number (numberTo 999999 (now (a .volume))) _ _ _ (sym (v .v .given .1) ∙ w .whole-number .ensures) .0) (q .before .if1 .left),
       ph-is (now (a .ph)),
       as-nothing (numberTo 1400 (now (a .ph))) _ (sym (c .enum-told2 .given .1) ∙ q .whole-number2 .ensures),
     )
@@ -67,7 +67,7 @@ returns-4 c =
     let w = v .before .before in
     let a = w .before .before .before .args in
     rw (
-      volume-some (now (a .volume)) _ (as-number _ _ _ _ (sym (v .v .given .1) ∙ w .whole-number .ensures) .0) (q .before .if1 .left),
+      volume-some (now (a .volume)) _ (as-number (numberTo 999999 (now (a .volume))) _ _ _ (sym (v .v .given .1) ∙ w .whole-number .ensures) .0) (q .before .if1 .left),
       ph-is (now (a .ph)),
       as-number (numberTo 1400 (now (a .ph))) _ _ _ (sym (p .p .given .1) ∙ q .whole-number2 .ensures) .0,
     )
