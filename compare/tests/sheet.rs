@@ -70,6 +70,7 @@ fn assert_refused(scratch: &Scratch, sheet: &[u8], line: usize, words: &str) {
             ("-s", &short),
             ("-e", &long),
             ("-s -e", &long),
+            ("-se", &long),
         ] {
             scratch
                 .sh(&format!("nibharrow sheet {options} {words_and_input}"))
@@ -131,6 +132,9 @@ fn lines_are_sorted_on_request() {
         "-s -s good",
         "-e -s good",
         "-s -e good",
+        "-se good",
+        "-es good",
+        "good -se",
         "--explain good --sort",
         "-s < good",
         "-s - < good",
@@ -521,7 +525,7 @@ fn what_is_not_understood_is_told_without_waiting() {
         ("-- good -s", "sheet takes one FILE"),
         ("--bogus", "sheet has no option --bogus"),
         ("-x", "sheet has no option -x"),
-        ("-se", "sheet has no option -se"),
+        ("-sx", "sheet has no option -sx"),
         ("good -S", "sheet has no option -S"),
         ("--sorted good", "sheet has no option --sorted"),
         ("---", "sheet has no option ---"),

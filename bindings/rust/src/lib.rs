@@ -1,4 +1,5 @@
-//! IP addresses read, written, split and turned into blocks, by a library proved to keep its rules.
+//! IP addresses read, written, split and turned into blocks, lists of blocks gathered, and sheets
+//! respelled, by a library proved to keep its rules.
 //!
 //! Every call of Nibharrow gives, for each input, the one answer that its rules fix, or one of ten
 //! [`Refusal`]s. No text is read by a rule that the caller did not ask for: `010.0.0.12` is refused

@@ -21,6 +21,8 @@ pub const LONGEST_SHEET: usize = 65_536;
 /// too, and [`Malformed`](Refusal::Malformed) where a line is not of that form, as that last one is
 /// not.
 ///
+/// A call takes about 123 KiB of stack, however short the sheet is.
+///
 /// ```
 /// use nibharrow::{respell, Refusal};
 ///
