@@ -5,10 +5,11 @@ use mathlib.Core.List.{List, [], _∷_, List·Permᴰ}
 use Prim.Native.Nat.{ℕ, zero, suc, _^_, _≤_, _<_}
 use native.Mathlib.Omega.{arith}
 use lib.ListN as L
+use Rattle.stable_sort.proofs.StableLaws.{perm-length}
 use Rattle.cover.specs.Blocks.{CoversAt, AllBlocks, Rising}
 use Rattle.lists.specs.Lists.{Entry, blocks, CoveredAs, here, there, SameCover, OneLabel, ExactlyAs, FewestAs, sorted, gatheredSorted, gathered}
 use Rattle.lists.proofs.Tidy.{Tidy, tidy-fewest}
-use Rattle.lists.proofs.Order.{same-sym, same-trans, same-one-label, perm-same, perm-valid, perm-length, sorted-perm, sorted-rising}
+use Rattle.lists.proofs.Order.{same-sym, same-trans, same-one-label, perm-same, perm-valid, sorted-perm, sorted-rising}
 use Rattle.lists.proofs.Runs.{held-first, pass-first, made}
 
 -- ---- the fewest blocks are one list

@@ -8,6 +8,7 @@ use mathlib.Core.List.{List, [], _∷_, _++_}
 use Prim.Native.Nat.{ℕ, suc, _-_, _^_, _<_, max}
 use lib.Dec.{leb, ltb, eqb}
 use lib.ListN as L
+use Rattle.stable_sort.specs.Stable.{sortBy}
 use Rattle.cover.specs.Blocks.{Block, Covers, CoversAt, AllBlocks, Rising, rangeBlocks, after}
 
 -- ---- what a list covers
@@ -55,16 +56,13 @@ NotCovered W es k x = (k ≡ 0) × ((j : ℕ) → ¬ CoveredAs W es j x)
 
 -- ---- sorted by address
 
--- e, put before the first entry whose address is not lower
-unfoldable pub insert : Entry → List Entry → List Entry
-insert e [] = e ∷ []
-insert e (f ∷ fs) = elim (leb (e .block .address) (f .block .address)) [ true ↦ e ∷ f ∷ fs | false ↦ f ∷ insert e fs ]
+abbrev pub entryAddress : Entry → ℕ
+entryAddress e = e .block .address
 
 -- the same entries, their addresses rising
 unfoldable pub sorted : List Entry → List Entry
-unfolding insert
-sorted [] = []
-sorted (e ∷ es) = insert e (sorted es)
+unfolding sortBy
+sorted es = sortBy entryAddress es
 
 -- ---- blocks with one label
 

@@ -18,12 +18,13 @@ use Rattle.sort.specs.Order.{key, Before, Ordered, Sorted, Sorting}
 use Rattle.sort.proofs.Claims.{room-true}
 use Rattle.stable_sort.specs.Stable.{sortBy}
 use Rattle.stable_sort.specs.Indices.{upTo, Once, InOrder}
+use Rattle.stable_sort.proofs.StableLaws.{perm-length}
 use Rattle.stable_sort.proofs.IndexLaws.{upTo-size, upTo-at, order-sorts}
 use Rattle.sheet_lines.specs.declared.Entry.{Entry}
 use Rattle.sheet_answers.specs.Sheets.{sheetOf, sheetLines, sheetText, sorted, arranged}
 use Rattle.sheet_answers.specs.SheetAnswers.{mostBytes, mostLines, sheetRefusal, respellAnswer, respellLeaves}
 use Rattle.sheet_answers.proofs.SheetLaws.{text-most}
-use Rattle.sheet_answers.proofs.ArrangedLaws.{perm-length, arranged-perm, arranged-all}
+use Rattle.sheet_answers.proofs.ArrangedLaws.{arranged-perm, arranged-all}
 use Rattle.sheet_answers.proofs.RefusalLaws.{too-many, malformed, not-refused, refused-by, respelled-some}
 use Rattle.sheet_answers.proofs.RespellLaws.{entries-all, as-many}
 use Rattle.sheet.specs.declared.Rows.{Rows}

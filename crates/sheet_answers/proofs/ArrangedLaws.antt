@@ -3,8 +3,6 @@ use mathlib.Core.Path.{_≡_, refl, sym, ap, subst, _∙_}
 use mathlib.Core.Bool.{Bool, true, false, cond}
 use mathlib.Core.List.{List, [], List·Memᴰ, List·Memᴰ·head, List·Memᴰ·tail, List·Memᴰ·cases-cons, List·Permᴰ, List·Permᴰ·nil, List·Permᴰ·cons, List·Permᴰ·swap, List·Permᴰ·trans, Permᴰ·refl}
 use mathlib.Core.Logic.{⊎-elim}
-use Prim.Native.Nat.{suc}
-use lib.ListN.{length}
 use Rattle.stable_sort.specs.Stable.{StableSort}
 use Rattle.stable_sort.proofs.StableLaws.{sort-is, sort-only, sort-twice}
 use Rattle.sheet_lines.specs.declared.Entry.{Entry}
@@ -14,12 +12,6 @@ use Rattle.sheet_answers.specs.Sheets.{AllEntries, entryPlace, sorted, a
 -- ---- the same elements, each once
 
 module _ {A : Type 0} where
-  pub perm-length : {xs ys : List A} → List·Permᴰ xs ys → length xs ≡ length ys
-  perm-length List·Permᴰ·nil = refl
-  perm-length (List·Permᴰ·cons e p) = ap suc (perm-length p)
-  perm-length (List·Permᴰ·swap e g) = refl
-  perm-length (List·Permᴰ·trans p q) = perm-length p ∙ perm-length q
-
   -- what stands in the second list stands in the first
   pub perm-from : {a : A} {xs ys : List A} → List·Permᴰ xs ys → List·Memᴰ a ys → List·Memᴰ a xs
   perm-from List·Permᴰ·nil m = m

@@ -8,13 +8,14 @@ use native.Mathlib.Omega.{arith}
 use lib.ListN.{length, take, drop, length-map}
 use Rattle.address.specs.Answers.{Answer, gives, writeAnswer, writeLeaves}
 use Rattle.address.proofs.AnswerLaws.{written-held, write-none, write-fits}
+use Rattle.stable_sort.proofs.StableLaws.{perm-length}
 use Rattle.sheet_lines.specs.declared.Entry.{Entry}
 use Rattle.sheet_lines.specs.Lines.{lineEntry, entryText}
 use Rattle.sheet_answers.specs.Sheets.{sheetOf, sheetLines, sheetText, AllEntries, Spelled, arranged}
 use Rattle.sheet_answers.specs.SheetAnswers.{respelled, sheetRefusal, respellAnswer, respellLeaves}
 use Rattle.sheet_answers.proofs.LineLaws.{no-entries, no-lines}
 use Rattle.sheet_answers.proofs.SheetLaws.{sheet-read, read-sheet, read-lines, read-all, read-spelled, text-read, text-lines, text-most, text-spelled}
-use Rattle.sheet_answers.proofs.ArrangedLaws.{perm-length, perm-from, arranged-perm, arranged-all, arranged-twice, arranged-none}
+use Rattle.sheet_answers.proofs.ArrangedLaws.{perm-from, arranged-perm, arranged-all, arranged-twice, arranged-none}
 use Rattle.sheet_answers.proofs.RefusalLaws.{respelled-some, not-refused, zero-exactly}
 
 -- ---- a sheet that is read

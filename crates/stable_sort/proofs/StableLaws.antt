@@ -1,7 +1,7 @@
 -- Putting a list in the order of its keys: it is done by insertion, and there is one way to do it. Assumes nothing.
 use mathlib.Core.Path.{_≡_, refl, sym, ap, ap₂, _∙_}
 use mathlib.Core.Bool.{Bool, true, false, cond}
-use mathlib.Core.List.{List, [], _∷_, _++_, List·Permᴰ, List·Permᴰ·nil, List·Permᴰ·cons, List·Permᴰ·swap, List·Permᴰ·trans, Permᴰ·refl}
+use mathlib.Core.List.{List, [], _∷_, _++_, map, List·Permᴰ, List·Permᴰ·nil, List·Permᴰ·cons, List·Permᴰ·swap, List·Permᴰ·trans, Permᴰ·refl}
 use Prim.Native.Nat.{ℕ, zero, suc, _≤_, _<_}
 use native.Mathlib.Decide.{decLe, ℕ-discrete}
 use native.Mathlib.Omega.{arith}
@@ -9,6 +9,13 @@ use borrow.Author.Tests.{le-leb, lt-leb, eq-eqb, ne-eqb, eqb-true, eqb-false}
 use lib.Dec.{eqb}
 use lib.ListN.{length, getD}
 use Rattle.stable_sort.specs.Stable.{From, Rising, withKey, StableSort, insertBy, sortBy}
+
+-- a list in another order is as long
+pub perm-length : {A : Type 0} {xs ys : List A} → List·Permᴰ xs ys → length xs ≡ length ys
+perm-length List·Permᴰ·nil = refl
+perm-length (List·Permᴰ·cons e p) = ap suc (perm-length p)
+perm-length (List·Permᴰ·swap e g) = refl
+perm-length (List·Permᴰ·trans p q) = perm-length p ∙ perm-length q
 
 module _ {A : Type 0} (key : A → ℕ) where
   -- ---- keys from a number on
@@ -195,3 +202,21 @@ module _ {A : Type 0} (key : A → ℕ) where
       let s = sort-is xs in
       let same : ys ≡ sortBy key xs = rising-only ys (sortBy key xs) r (s .rising) (λ k. e k ∙ sym (s .old-order k)) in
       rw same s
+
+-- ---- elements made of others, with the same keys
+
+module _ {A B : Type 0} (key : A → ℕ) (other : B → ℕ) (f : A → B) (same : (x : A) → other (f x) ≡ key x) where
+  insert-map : (x : A) (ys : List A) → insertBy other (f x) (map f ys) ≡ map f (insertBy key x ys)
+  insert-map x [] = insert-none other (f x) ∙ ap (map f) (sym (insert-none key x))
+  insert-map x (y ∷ ys) = elim (decLe (key x) (key y)) [
+    | yes h ↦ insert-here other (f x) (f y) (map f ys) (omega (arith, same x, same y)) ∙ ap (map f) (sym (insert-here key x y ys h))
+    | no n ↦
+        insert-on other (f x) (f y) (map f ys) (omega (arith, same x, same y))
+        ∙ ap (λ l. f y ∷ l) (insert-map x ys)
+        ∙ ap (map f) (sym (insert-on key x y ys (omega arith)))
+  ]
+
+  pub sort-map : (xs : List A) → sortBy other (map f xs) ≡ map f (sortBy key xs)
+  unfolding sortBy
+  sort-map [] = refl
+  sort-map (x ∷ xs) = ap (insertBy other (f x)) (sort-map xs) ∙ insert-map x (sortBy key xs)
