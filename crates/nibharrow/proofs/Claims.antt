@@ -2,7 +2,7 @@
 use mathlib.Core.Path.{_≡_, refl, sym, ap, subst, _∙_}
 use mathlib.Core.Logic.{_↔_}
 use mathlib.Core.Bool.{Bool, true, false, not}
-use mathlib.Core.List.{List, [], _∷_, map, List·Permᴰ}
+use mathlib.Core.List.{List, [], _∷_, _++_, map, List·Permᴰ}
 use mathlib.Core.Option.{some, none, Option·getD}
 use Prim.Native.Nat.{ℕ, _+_, _*_, _/_, _≤_, _<_, min, max}
 use native.Mathlib.Omega.{arith}
@@ -418,8 +418,12 @@ module _ (sorted : ℕ) (t old : List ℕ) where
     unfolding respellInto
     each-line-once = sheets.each-line-once asked t old n good
 
-    -- Respelling twice changes nothing, and sorting twice changes nothing: the second call, with any buffer, does what one call does that sorts
-    -- where either of both was to.
+    -- Respelling twice changes nothing, and sorting twice changes nothing: the same request on what was written writes it again.
+    pub respelled-unchanged : (buf : List ℕ) → n ≤ length buf → respellInto sorted seen buf ≡ outcome (gives n) (seen ++ drop n buf)
+    unfolding respellInto
+    respelled-unchanged buf room = let u = sheets.unchanged asked t old n good buf room in both (u .0) (u .1)
+
+    -- A second call of any request, with any buffer, does what one call does that sorts where either of both was to.
     pub respelled-again : (then : ℕ) (buf : List ℕ) → respellInto then seen buf ≡ respellInto (max sorted then) t buf
     unfolding respellInto
     respelled-again then buf =

@@ -124,13 +124,22 @@ room-left (more {run = run} c m t) e =
     subst (λ x. x .len < 65537) (sym (t .next)) (after-more run m (t .got) (room-left c m) (ap (λ x. x .end) (sym (t .next)) ∙ e))
 
 -- ended: the last read brought nothing, though there was room
-pub ended : {n : ℕ} {r : Run} {input : List ℕ} (c : Chain n r input) → r .end ≡ Ended → (r .len < 65537) × (lastGot c ≡ Bytes 0)
+pub ended : {n : ℕ} {r : Run} {input : List ℕ} (c : Chain n r input) → r .end ≡ Ended → lastGot c ≡ Bytes 0
 unfolding lastGot
 ended (none input) e = absurd (omega (arith, ap code e))
-ended (more {run = run} {r = r} c m t) e =
-    let a = after-ended run m (t .got) (ap (λ x. x .end) (sym (t .next)) ∙ e) in
-    let l : r .len ≡ run .len = ap (λ x. x .len) (t .next) ∙ a .1 in
-    (omega (arith, room-left c m, l), a .0)
+ended (more {run = run} c m t) e = after-ended run m (t .got) (ap (λ x. x .end) (sym (t .next)) ∙ e) .0
+
+pub ended-room : {n : ℕ} {r : Run} {input : List ℕ} → Chain n r input → r .end ≡ Ended → r .len < 65537
+ended-room (none input) e = absurd (omega (arith, ap code e))
+ended-room (more {run = run} {r = r} c m t) e =
+    let l : r .len ≡ run .len = ap (λ x. x .len) (t .next) ∙ after-ended run m (t .got) (ap (λ x. x .end) (sym (t .next)) ∙ e) .1 in
+    omega (arith, room-left c m, l)
+
+-- and a read that brought nothing is the end
+pub nothing : {n : ℕ} {r : Run} {input : List ℕ} (c : Chain n r input) → lastGot c ≡ Bytes 0 → r .end ≡ Ended
+unfolding lastGot
+nothing (none input) e = absurd (omega (arith, ap kind e))
+nothing (more {run = run} c m t) e = ap (λ x. x .end) (t .next ∙ ap (afterRead run) e)
 
 -- full: there is one byte more than a sheet may have
 pub full : {n : ℕ} {r : Run} {input : List ℕ} → Chain n r input → r .end ≡ Full → r .len ≡ 65537

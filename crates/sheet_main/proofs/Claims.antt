@@ -3,16 +3,17 @@ use mathlib.Core.Path.{_≡_}
 use mathlib.Core.Logic.{_↔_, _⊎_}
 use mathlib.Core.Bool.{Bool, true, false}
 use mathlib.Core.List.{List, []}
-use Prim.Native.Nat.{ℕ, _<_}
+use Prim.Native.Nat.{ℕ, _-_, _<_}
 use lib.ListN.{length, take}
 use Rattle.program_io.specs.declared.Got.the-variants.{Bytes, Failed}
+use Rattle.program_io.specs.Calls.{broughtOf}
 use Rattle.sheet_answers.specs.SheetAnswers.{sheetRefusal, respelled}
 use Rattle.sheet_notes.specs.SheetNotes.{refusedNote}
 use Rattle.sheet_main.specs.declared.Run.{Run}
 use Rattle.sheet_main.specs.declared.End.{End}
-use Rattle.sheet_main.specs.declared.End.the-variants.{Ended, Full, Unread}
-use Rattle.sheet_main.specs.declared.Finished.{Finished}
-use Rattle.sheet_main.specs.Runs.{Chain, gathered, lastGot, isWhole, outputOf, noteOf, isRefused, statusOf, AnswersInput}
+use Rattle.sheet_main.specs.declared.End.the-variants.{More, Ended, Full, Unread}
+use Rattle.sheet_main.specs.declared.InputAnswer.{InputAnswer}
+use Rattle.sheet_main.specs.Runs.{Turns, Chain, more, gathered, lastGot, isWhole, outputOf, noteOf, isRefused, statusOf, AnswersInput}
 use Rattle.sheet_main.proofs.ChainLaws as chains
 use Rattle.sheet_main.proofs.ReplyLaws as replies
 use Rattle.sheet_main.proofs.StatusLaws as statuses
@@ -25,9 +26,13 @@ module _ {n : ℕ} {r : Run} {input : List ℕ} (c : Chain n r input) where
   pub all-kept : gathered c ≡ take (r .len) input
   all-kept = chains.all-kept c
 
-  -- An input has ended only if the last read did not fail and brought nothing, though there was room for a byte,
-  pub ended : r .end ≡ Ended → (r .len < 65537) × (lastGot c ≡ Bytes 0)
-  ended = chains.ended c
+  -- An input has ended exactly if the last read did not fail and brought nothing,
+  pub ended : (r .end ≡ Ended) ↔ (lastGot c ≡ Bytes 0)
+  ended = (chains.ended c, chains.nothing c)
+
+  -- though there was room for a byte;
+  pub ended-with-room : r .end ≡ Ended → r .len < 65537
+  ended-with-room = chains.ended-room c
 
   -- it is longer than a sheet may be only if 65,537 bytes are read,
   pub full : r .end ≡ Full → r .len ≡ 65537
@@ -36,6 +41,12 @@ module _ {n : ℕ} {r : Run} {input : List ℕ} (c : Chain n r input) where
   -- and it could not be read exactly if the last read failed: that is never the end.
   pub unread : (r .end ≡ Unread) ↔ (lastGot c ≡ Failed)
   unread = (chains.unread c, chains.failed c)
+
+-- What the last read has brought is what its answer says.
+pub last-read : {n : ℕ} {run r : Run} {old new : List ℕ} (c : Chain n run old) (m : run .end ≡ More) (t : Turns run old new r)
+    → lastGot (more c m t) ≡ broughtOf (t .answer) (t .interrupted) (65537 - run .len)
+unfolding lastGot
+last-read c m t = t .brings
 
 -- ---- what is written
 
@@ -81,7 +92,7 @@ whole-exactly = statuses.whole-exactly
 
 -- ---- an input
 
-module _ (sort explain : Bool) (name input : List ℕ) (r : Finished) (a : AnswersInput sort explain name input r) where
+module _ (sort explain : Bool) (name input : List ℕ) (r : InputAnswer) (a : AnswersInput sort explain name input r) where
   -- By status 0 the bytes that the reads have brought are a good sheet, and as many bytes were taken as it has respelled;
   pub input-written : r .status ≡ 0
       → (sheetRefusal (gathered (a .reads .chain)) ≡ 0) × (r .answered .moved ≡ length (respelled sort (gathered (a .reads .chain))))
@@ -93,6 +104,6 @@ module _ (sort explain : Bool) (name input : List ℕ) (r : Finished) (a : Answe
       × (r .answered .moved ≡ length (refusedNote name explain (sheetRefusal (gathered (a .reads .chain))) (gathered (a .reads .chain))))
   input-refused = inputs.input-refused sort explain name input r a
 
-  -- Where a read failed nothing of the sheet is written, and the status is 2.
+  -- Where a read failed no byte is counted as written, and the status is 2.
   pub part-unanswered : lastGot (a .reads .chain) ≡ Failed → (r .status ≡ 2) × (r .answered .moved ≡ 0)
   part-unanswered = inputs.part-unanswered sort explain name input r a

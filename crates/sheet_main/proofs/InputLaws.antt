@@ -10,7 +10,7 @@ use Rattle.program_io.specs.declared.Got.the-variants.{Failed}
 use Rattle.sheet_answers.specs.SheetAnswers.{sheetRefusal, respelled}
 use Rattle.sheet_notes.specs.SheetNotes.{refusedNote}
 use Rattle.sheet_main.specs.declared.Answered.{Answered}
-use Rattle.sheet_main.specs.declared.Finished.{Finished}
+use Rattle.sheet_main.specs.declared.InputAnswer.{InputAnswer}
 use Rattle.sheet_main.specs.Runs.{gathered, lastGot, isWhole, statusOf, Answers, AnswersInput}
 use Rattle.sheet_main.proofs.ChainLaws.{all-kept, failed}
 use Rattle.sheet_main.proofs.ReplyLaws.{good-output, good-note, good-is, bad-output, bad-note, bad-is}
@@ -31,7 +31,7 @@ module _ (sort explain : Bool) (name t : List ℕ) (r : Answered) (a : Answers s
     | no l ↦ absurd (false≢true (sym (good-is sort explain name t (omega arith)) ∙ sym (a .refused) ∙ h))
   ]
 
-module _ (sort explain : Bool) (name input : List ℕ) (r : Finished) (a : AnswersInput sort explain name input r) where
+module _ (sort explain : Bool) (name input : List ℕ) (r : InputAnswer) (a : AnswersInput sort explain name input r) where
   -- all that the reads have brought is what was answered
   answers-all : isWhole (r .run .end) ≡ true → Answers sort explain name (gathered (a .reads .chain)) (r .answered)
   answers-all w = subst (λ t. Answers sort explain name t (r .answered)) (sym (all-kept (a .reads .chain))) (a .answers .whole w)

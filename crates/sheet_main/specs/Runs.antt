@@ -16,7 +16,7 @@ use Rattle.sheet_main.specs.declared.End.the-variants.{More, Ended, Full
 use Rattle.sheet_main.specs.declared.Run.{Run}
 use Rattle.sheet_main.specs.declared.Reply.{Reply}
 use Rattle.sheet_main.specs.declared.Answered.{Answered}
-use Rattle.sheet_main.specs.declared.Finished.{Finished}
+use Rattle.sheet_main.specs.declared.InputAnswer.{InputAnswer}
 
 -- ---- a turn
 
@@ -34,7 +34,7 @@ afterRead run Again = run
 afterRead run Failed = record { len = run .len; end = Unread }
 afterRead run (Bytes n) = cond (eqb n 0) (record { len = run .len; end = Ended }) (reached (run .len + n))
 
--- A turn: a call that answered so was made on the room that is left, and what was read before stays.
+-- A turn, as of a call that answered so on the room that is left: what was read before stays.
 pub record Turns (run : Run) (old new : List ℕ) (r : Run) : Type 0 where
   pub answer : ℤ
   pub interrupted : Bool
@@ -128,7 +128,7 @@ statusOf Unread refused left = 2
 -- ---- an input
 
 -- An input is read as above, what was read of it is answered, and the status says so.
-pub record AnswersInput (sort explain : Bool) (name input : List ℕ) (r : Finished) : Type 0 where
+pub record AnswersInput (sort explain : Bool) (name input : List ℕ) (r : InputAnswer) : Type 0 where
   pub reads : Reads (r .turns) (r .run) input
   pub answers : AnswersRun sort explain name (r .run) input (r .answered)
   pub is : r .status ≡ statusOf (r .run .end) (r .answered .refused) (r .answered .left)

@@ -62,7 +62,7 @@ pub struct Answered {
 }
 
 // An input that is answered: how it was read, after how many turns, what was answered, and the status.
-pub struct Finished {
+pub struct InputAnswer {
     pub run: Run,
     pub turns: u64,
     pub answered: Answered,
@@ -302,7 +302,7 @@ fn judge(end: End, answered: Answered, name: &[u8]) -> u8
 }
 
 // Reads an input and answers it.
-fn answer_read(fd: i32, options: Options, name: &[u8], input: &mut [u8]) -> Finished
+fn answer_read(fd: i32, options: Options, name: &[u8], input: &mut [u8]) -> InputAnswer
     requires { ⌜ (length (now name) ≤ 4096) × (length (now input) ≡ 65537) ⌝ }
     ensures { λ r. ⌜ AnswersInput (options .sorted) (options .explain) (now (name .entry)) (now (input .exit)) r ⌝ }
 {
@@ -312,7 +312,7 @@ fn answer_read(fd: i32, options: Options, name: &[u8], input: &mut [u8]) -> Fini
     let answered = answer_run(run, input, options, name);
     let end = run.end;
     let status = judge(end, answered, name);
-    Finished {
+    InputAnswer {
         run,
         turns,
         answered,
@@ -325,8 +325,8 @@ fn answer_input(fd: i32, options: Options, name: &[u8]) -> u8
     requires { ⌜ length (now name) ≤ 4096 ⌝ }
 {
     let mut input = [0u8; 65537];
-    let finished = answer_read(fd, options, name, &mut input);
-    finished.status
+    let answer = answer_read(fd, options, name, &mut input);
+    answer.status
 }
 
 // The file that the third argument names.
