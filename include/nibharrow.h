@@ -9,8 +9,8 @@
  *   - a pointer and the length behind it name that many bytes, readable where the pointer is to const, writable where not.
  *     A pointer may be NULL where its length is 0;
  *   - a buffer that a call writes to overlaps nothing else that the call is lent;
- *   - stack, as docs/LINKING.md has it: about 123 KiB for a call on a sheet, 61 KiB for one on records, whatever their
- *     lengths, and 1 KiB for any other.
+ *   - stack: up to about 123 KiB for a call on a sheet, 61 KiB for one on records, and 1 KiB for any other. Short sheets
+ *     and lists may take nearly as much: docs/LINKING.md has the figures.
  * Nothing else is asked: any bytes and any numbers may be handed in.
  *
  * Text is bytes with a length. No zero byte ends it: pass strlen(text), and do not count the zero. A zero byte inside
