@@ -21,37 +21,24 @@ static void print_line(const uint8_t *text, size_t length)
     printf("%.*s\n", (int)length, (const char *)text);
 }
 
-/* Prints the words of a refusal and ends the line. */
-static void print_words(uint32_t refusal)
-{
-    uint8_t words[NIBHARROW_REFUSAL_TEXT_ROOM];
-    nibharrow_written written = nibharrow_refusal_text(refusal, words, sizeof words);
-    print_line(words, written.bytes); /* 0 bytes, had there been no words for this number */
-}
-
 /* Whether an answer is good. If it is not, prints the refusal's number and words. */
 static bool accepted(uint32_t refusal)
 {
     if (refusal == 0)
         return true;
+    uint8_t words[NIBHARROW_REFUSAL_TEXT_ROOM];
+    nibharrow_written written = nibharrow_refusal_text(refusal, words, sizeof words);
     printf("refused %" PRIu32 ": ", refusal);
-    print_words(refusal);
+    print_line(words, written.bytes); /* 0 bytes, had there been no words for this number */
     return false;
 }
 
-/*
- * Reads an address of either family. Answers how many bytes it has, 4 or 16, or 0 if the text is refused. Where it is
- * malformed, prints the place too: how many of its first bytes may stand as they are.
- */
+/* Reads an address of either family. Answers how many bytes it has, 4 or 16, or 0 if the text is refused. */
 static size_t read_either(const char *text, uint8_t address[NIBHARROW_ADDRESS_ROOM])
 {
     const uint8_t *bytes = (const uint8_t *)text;
-    nibharrow_address_read read = nibharrow_read_address(bytes, strlen(text), 0, address, NIBHARROW_ADDRESS_ROOM);
-    if (read.refusal != NIBHARROW_MALFORMED)
-        return accepted(read.refusal) ? read.bytes : 0;
-    printf("refused %" PRIu32 " at %" PRIu32 ": ", read.refusal, read.place);
-    print_words(read.refusal);
-    return 0;
+    nibharrow_written read = nibharrow_read_address(bytes, strlen(text), 0, address, NIBHARROW_ADDRESS_ROOM);
+    return accepted(read.refusal) ? read.bytes : 0;
 }
 
 /* Prints the normal text of an address. */

@@ -28,11 +28,11 @@
  * return, and no line is empty.
  *
  * Answers. Each begins with `refusal`: 0 for a good answer, or one of the numbers below. Where it is not 0 every other
- * field is 0, but for the `place` of nibharrow_read_address, and no byte of a lent buffer has changed. A good answer
- * changes only the bytes it counts, at the start of the buffer. Where several refusals hold, the first of 9, 1, 2, 4, 5,
- * 6, 7, 8, 3 is given; bytes that are no address have no family, so of bytes 9 is given only where they are addresses.
- * A call on records gives the first of 9, 2 and 10, then the number of the first bad record, 4 before 5, then 3. A call
- * on a sheet gives the first of 1, 10, 2 and 3. Answers may have padding: compare them field by field.
+ * field is 0, and no byte of a lent buffer has changed. A good answer changes only the bytes it counts, at the start of
+ * the buffer. Where several refusals hold, the first of 9, 1, 2, 4, 5, 6, 7, 8, 3 is given; bytes that are no address
+ * have no family, so of bytes 9 is given only where they are addresses. A call on records gives the first of 9, 2 and 10, then the number
+ * of the first bad record, 4 before 5, then 3. A call on a sheet gives the first of 1, 10, 2 and 3. Answers may have
+ * padding: compare them field by field.
  */
 #ifndef NIBHARROW_H
 #define NIBHARROW_H
@@ -85,17 +85,6 @@ typedef struct nibharrow_written {
     size_t bytes;
 } nibharrow_written;
 
-/*
- * `place` is where strict text that is refused by 2 went wrong: the length of its longest beginning that is also the
- * beginning of some accepted text of the family asked for. It is 0 for every other refusal and for a good answer.
- * `bytes` is 4 (IPv4) or 16 (IPv6).
- */
-typedef struct nibharrow_address_read {
-    uint32_t refusal;
-    uint32_t place;
-    size_t bytes;
-} nibharrow_address_read;
-
 /* `size` in bits, and how many bytes of the network are at the start of `out`. */
 typedef struct nibharrow_network_read {
     uint32_t refusal;
@@ -127,16 +116,9 @@ typedef struct nibharrow_blocks_written {
  * Reads strict text and writes the address to `out`. `family` is 4, 6, or 0 for either.
  * IPv4 is four decimal parts of 0 to 255 with no leading zero, so "010.0.0.12" is refused. IPv6 is RFC 4291 section
  * 2.2, with a dotted IPv4 tail if wished. Zones ("%eth0"), ports and brackets are refused.
- * Refusals: 9, 1, 2, 3. Refusal 2 has a place, which is `text_length` where the text is only not finished:
- *
- *     nibharrow_address_read read = nibharrow_read_address(text, text_length, 0, out, sizeof out);
- *     if (read.refusal == NIBHARROW_MALFORMED)
- *         printf("%.*s\n%*s^\n", (int)text_length, (const char *)text, (int)read.place, "");
- *
- * puts a caret under the 6 of "1.2.3.256", which is wrong at 8, and behind "1.2.3", which is not finished, at 5.
- * "256." is wrong at 2 for family 4, and at 3 for family 6 and for 0, since "256::" is IPv6 text.
+ * Refusals: 9, 1, 2, 3.
  */
-nibharrow_address_read nibharrow_read_address(const uint8_t *text, size_t text_length, uint32_t family, uint8_t *out, size_t out_length);
+nibharrow_written nibharrow_read_address(const uint8_t *text, size_t text_length, uint32_t family, uint8_t *out, size_t out_length);
 
 /*
  * Writes the normal text of an address to `out`: dotted decimal, or RFC 5952 section 4.

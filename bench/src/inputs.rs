@@ -130,11 +130,6 @@ pub fn ipv6_zeros(random: &mut Random) -> Ipv6Addr {
 
 // ---- strict text
 
-/// Text of any IPv4 address.
-pub fn ipv4_text(random: &mut Random) -> String {
-    ipv4(random, 0, 255).to_string()
-}
-
 /// Text with a dotted tail: behind `::`, behind six groups, or behind some of both.
 pub fn dotted_tail(random: &mut Random) -> String {
     let tail = ipv4(random, 0, 255);
@@ -163,34 +158,6 @@ pub fn ipv6_mix(random: &mut Random) -> String {
             .join(":"),
         _ => dotted_tail(random),
     }
-}
-
-/// Bytes that no strict text has.
-const WRONG: &[u8; 8] = b"gxz%/-_ ";
-
-/// The text with one of its bytes wrong.
-fn with_wrong_byte(random: &mut Random, mut text: String, place: usize) -> String {
-    let wrong = char::from(WRONG[random.within(0, 7) as usize]);
-    text.replace_range(place..=place, &wrong.to_string());
-    text
-}
-
-/// Texts that `make` makes, each with one of its last three bytes wrong.
-pub fn wrong_near_end(make: impl Fn(&mut Random) -> String) -> Vec<Text> {
-    texts(|random| {
-        let text = make(random);
-        let place = text.len() - random.within(1, 3) as usize;
-        with_wrong_byte(random, text, place)
-    })
-}
-
-/// Texts that `make` makes, each with one of its first three bytes wrong.
-pub fn wrong_near_start(make: impl Fn(&mut Random) -> String) -> Vec<Text> {
-    texts(|random| {
-        let text = make(random);
-        let place = random.within(0, 2) as usize;
-        with_wrong_byte(random, text, place)
-    })
 }
 
 // ---- loose text

@@ -8,12 +8,9 @@ mod sheets;
 mod table;
 
 use std::net::{Ipv4Addr, Ipv6Addr};
-use std::str::FromStr;
 
-use inputs::{between, covered, inputs, most_blocks, texts, wrong_near_end, wrong_near_start};
-use inputs::{Base, Block, List, Range, Sheet, Text};
+use inputs::{between, covered, inputs, most_blocks, texts, Base, Block, List, Range, Sheet, Text};
 use measure::{measure, verify, Answer};
-use nibharrow::raw::Written;
 use nibharrow::{exact, room};
 use table::Row;
 
@@ -28,24 +25,6 @@ const C_READERS: Option<f64> = Some(1.0);
 const LIST: Option<f64> = Some(1.5);
 const LIST_IN_ORDER: Option<f64> = Some(1.0);
 const SHEET: Option<f64> = Some(1.0);
-
-/// The family of addresses of N bytes.
-const fn family<const N: usize>() -> u32 {
-    if N == 4 {
-        4
-    } else {
-        6
-    }
-}
-
-/// The library's answer to strict text but for the place, which no peer tells.
-fn read_address(text: &Text, family: u32, out: &mut [u8]) -> Written {
-    let read = exact::read_address(text.bytes(), family, out);
-    Written {
-        refusal: read.refusal,
-        bytes: read.bytes,
-    }
-}
 
 struct Bench {
     markdown: bool,
@@ -96,89 +75,42 @@ impl Bench {
         });
     }
 
-    /// Strict text of one family, which has addresses of N bytes.
-    fn read_rows<const N: usize, A: FromStr>(
-        &mut self,
-        kind: &str,
-        texts: &[Text],
-        octets: impl Fn(&A) -> [u8; N],
-        target: Option<f64>,
-    ) {
-        let work = format!("read IPv{}, {kind}", family::<N>());
-        // It holds nothing, so that no call loads the family.
-        let read = |t: &Text, out: &mut [u8]| read_address(t, family::<N>(), out);
-        self.row((&work, "std parse", target), texts, read, |t, out| {
-            peers::parse(t, &octets, out)
-        });
-        self.row((&work, "inet_pton", None), texts, read, peers::pton::<N>);
-    }
-
-    fn read_ipv4(&mut self) {
-        for (kind, target, texts) in [
-            ("random", READ_IPV4, texts(inputs::ipv4_text)),
-            (
-                "short",
-                READ_IPV4,
-                texts(|r| inputs::ipv4(r, 0, 9).to_string()),
-            ),
-            (
-                "long",
-                READ_IPV4,
-                texts(|r| inputs::ipv4(r, 100, 255).to_string()),
-            ),
-            (
-                "refused near the end",
-                None,
-                wrong_near_end(inputs::ipv4_text),
-            ),
-            (
-                "refused near the start",
-                None,
-                wrong_near_start(inputs::ipv4_text),
-            ),
+    fn read_strict(&mut self) {
+        let random4 = texts(|r| inputs::ipv4(r, 0, 255).to_string());
+        for (kind, texts) in [
+            ("random", &random4),
+            ("short", &texts(|r| inputs::ipv4(r, 0, 9).to_string())),
+            ("long", &texts(|r| inputs::ipv4(r, 100, 255).to_string())),
         ] {
-            self.read_rows(kind, &texts, Ipv4Addr::octets, target);
+            let work = format!("read IPv4, {kind}");
+            let read = |t: &Text, out: &mut [u8]| exact::read_address(t.bytes(), 4, out);
+            self.row((&work, "std parse", READ_IPV4), texts, read, |t, out| {
+                peers::parse(t, Ipv4Addr::octets, out)
+            });
+            self.row((&work, "inet_pton", None), texts, read, peers::pton::<4>);
         }
-    }
-
-    fn read_ipv6(&mut self) {
-        for (kind, target, texts) in [
-            (
-                "full",
-                READ_IPV6,
-                texts(|r| inputs::ipv6_full(r).to_string()),
-            ),
-            (
-                "with ::",
-                READ_IPV6,
-                texts(|r| inputs::ipv6_zeros(r).to_string()),
-            ),
-            ("dotted tail", READ_IPV6, texts(inputs::dotted_tail)),
-            ("mix", READ_IPV6, texts(inputs::ipv6_mix)),
-            (
-                "refused near the end",
-                None,
-                wrong_near_end(inputs::ipv6_mix),
-            ),
-            (
-                "refused near the start",
-                None,
-                wrong_near_start(inputs::ipv6_mix),
-            ),
+        let mix6 = texts(inputs::ipv6_mix);
+        for (kind, texts) in [
+            ("full", &texts(|r| inputs::ipv6_full(r).to_string())),
+            ("with ::", &texts(|r| inputs::ipv6_zeros(r).to_string())),
+            ("dotted tail", &texts(inputs::dotted_tail)),
+            ("mix", &mix6),
         ] {
-            self.read_rows(kind, &texts, Ipv6Addr::octets, target);
+            let work = format!("read IPv6, {kind}");
+            let read = |t: &Text, out: &mut [u8]| exact::read_address(t.bytes(), 6, out);
+            self.row((&work, "std parse", READ_IPV6), texts, read, |t, out| {
+                peers::parse(t, Ipv6Addr::octets, out)
+            });
+            self.row((&work, "inet_pton", None), texts, read, peers::pton::<16>);
         }
-    }
-
-    fn read_either(&mut self) {
-        for (kind, target, texts) in [
-            ("IPv4 random", READ_IPV4, texts(inputs::ipv4_text)),
-            ("IPv6 mix", READ_IPV6, texts(inputs::ipv6_mix)),
+        for (work, texts, target) in [
+            ("read either, IPv4 random", &random4, READ_IPV4),
+            ("read either, IPv6 mix", &mix6, READ_IPV6),
         ] {
             self.row(
-                (&format!("read either, {kind}"), "std parse", target),
-                &texts,
-                |t, out| read_address(t, 0, out),
+                (work, "std parse", target),
+                texts,
+                |t, out| exact::read_address(t.bytes(), 0, out),
                 peers::parse_either,
             );
         }
@@ -415,9 +347,7 @@ fn main() {
         eprintln!("{USAGE}");
         std::process::exit(2);
     };
-    bench.read_ipv4();
-    bench.read_ipv6();
-    bench.read_either();
+    bench.read_strict();
     bench.write_normal();
     bench.read_loose();
     bench.networks();

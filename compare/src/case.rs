@@ -1,10 +1,9 @@
 //! One call with its inputs, put to the library or to the second implementation, and its answer in
 //! common terms.
 
-use crate::rules::{self, Placed};
-use crate::sheets;
+use crate::{rules, sheets};
 use nibharrow::exact;
-use nibharrow::raw::{AddressRead, BlockRead, BlocksWritten, NetworkHost, NetworkRead, Written};
+use nibharrow::raw::{BlockRead, BlocksWritten, NetworkHost, NetworkRead, Written};
 use std::fmt;
 
 #[derive(Clone, Debug)]
@@ -54,12 +53,11 @@ const SHEET_ROOM: usize = 1_024 * (39 + 6 + 4 + 3);
 /// The room in which the words of every refusal fit.
 pub const REFUSAL_TEXT_ROOM: usize = 54;
 
-/// Every field of an answer. `place` is that of strict text; `bytes` counts what was written to the
-/// buffer; `values` are the other fields in their order.
+/// Every field of an answer. `bytes` counts what was written to the buffer; `values` are the other
+/// fields in their order.
 #[derive(Clone, Copy, Debug, Default, PartialEq, Eq)]
 pub struct Answer {
     pub refusal: u32,
-    pub place: usize,
     pub values: [u64; 2],
     pub bytes: usize,
 }
@@ -68,18 +66,8 @@ impl Answer {
     fn new(refusal: u32, values: [u64; 2], bytes: usize) -> Self {
         Self {
             refusal,
-            place: 0,
             values,
             bytes,
-        }
-    }
-}
-
-impl From<AddressRead> for Answer {
-    fn from(answer: AddressRead) -> Self {
-        Self {
-            place: answer.place as usize,
-            ..Self::new(answer.refusal, [0, 0], answer.bytes)
         }
     }
 }
@@ -128,14 +116,6 @@ fn settled<T>(result: Result<T, u32>, fields: impl Fn(T) -> ([u64; 2], usize)) -
 
 fn written(result: Result<usize, u32>) -> Answer {
     settled(result, |bytes| ([0, 0], bytes))
-}
-
-fn placed(result: Result<usize, Placed>) -> Answer {
-    let place = result.map_or_else(|(_, place)| place, |_| 0);
-    Answer {
-        place,
-        ..written(result.map_err(|(refusal, _)| refusal))
-    }
 }
 
 fn sized(result: Result<(u32, usize), u32>) -> Answer {
@@ -194,7 +174,7 @@ impl Case {
     /// What the second implementation answers.
     pub fn rules(&self, out: &mut [u8]) -> Answer {
         match self {
-            Case::ReadAddress { text, family } => placed(rules::read_address(text, *family, out)),
+            Case::ReadAddress { text, family } => written(rules::read_address(text, *family, out)),
             Case::WriteAddress { address } => written(rules::write_address(address, out)),
             Case::ReadLoose { text } => written(rules::read_loose(text, out)),
             Case::ReadNetwork { text } => sized(rules::read_network(text, out)),

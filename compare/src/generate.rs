@@ -400,12 +400,11 @@ pub fn damage(random: &mut Random, text: &mut Vec<u8>) {
             continue;
         }
         let other = random.below(text.len());
-        match random.below(6) {
+        match random.below(5) {
             0 => text[place] = byte,
             1 => text.insert(place, byte),
             2 => drop(text.remove(place)),
             3 => text.swap(place, other),
-            4 => text.truncate(place),
             _ => text.insert(place, text[place]),
         }
     }

@@ -2,22 +2,16 @@
 
 use crate::case::{Answer, Case, Shown, OUTCOMES};
 use crate::random::Random;
-use crate::rules::MALFORMED;
 use std::collections::BTreeMap;
 use std::fmt::Display;
 
 /// After this many printed failures a run only counts them.
 const MOST_PRINTED: u64 = 20;
 
-/// The length of the longest strict text: six groups of four digits and a dotted tail, in which every
-/// part has three.
-const LONGEST_ACCEPTED: usize = 6 * 5 + 4 * 3 + 3;
-
 pub struct Judge {
     pub random: Random,
     seed: u64,
     outcomes: BTreeMap<(&'static str, u32), u64>,
-    places: BTreeMap<usize, u64>,
     pub compared: u64,
     pub failures: u64,
     pattern: Vec<u8>,
@@ -31,7 +25,6 @@ impl Judge {
             random: Random::new(seed),
             seed,
             outcomes: BTreeMap::new(),
-            places: BTreeMap::new(),
             compared: 0,
             failures: 0,
             pattern: Vec::new(),
@@ -60,11 +53,8 @@ impl Judge {
         self.compared += 1;
         let outcome = (case.name(), library.refusal);
         *self.outcomes.entry(outcome).or_default() += 1;
-        if let (Case::ReadAddress { .. }, MALFORMED) = (case, library.refusal) {
-            *self.places.entry(library.place).or_default() += 1;
-        }
         let same = library == rules && self.library_buffer == self.rules_buffer;
-        if !same || !self.rest_is_kept(case, library, before, room) {
+        if !same || !self.rest_is_kept(library, before, room) {
             let mut pairs = self.library_buffer.iter().zip(&self.rules_buffer);
             let differs = pairs.position(|(ours, theirs)| ours != theirs);
             let lines = [
@@ -81,22 +71,15 @@ impl Judge {
         }
     }
 
-    /// Whether a refusal has every other field zero, but for the place of a malformed strict address,
-    /// and every byte as before, and a good answer no place and every byte it does not count. This
-    /// asks nothing of the second implementation.
-    fn rest_is_kept(&self, case: &Case, answer: Answer, before: usize, room: usize) -> bool {
-        let last_place = match case {
-            Case::ReadAddress { text, .. } if answer.refusal == MALFORMED => text.len(),
-            _ => 0,
-        };
+    /// Whether a refusal has every other field zero and every byte as before, and a good answer
+    /// every byte it does not count. This asks nothing of the second implementation.
+    fn rest_is_kept(&self, answer: Answer, before: usize, room: usize) -> bool {
         let refusal = Answer {
             refusal: answer.refusal,
-            place: answer.place,
             ..Answer::default()
         };
         let behind = before + answer.bytes.min(room);
         (answer.refusal == 0 || answer == refusal)
-            && answer.place <= last_place
             && answer.bytes <= room
             && self.library_buffer[..before] == self.pattern[..before]
             && self.library_buffer[behind..] == self.pattern[behind..]
@@ -143,19 +126,6 @@ impl Judge {
                     )
                 });
             }
-        }
-        self.report_places();
-    }
-
-    /// Prints how many places were compared. One that was never met fails the run: from 0, where the
-    /// first byte is wrong, to the length of the longest accepted text, which more bytes follow.
-    fn report_places(&mut self) {
-        let compared: u64 = self.places.values().sum();
-        let last = self.places.keys().next_back().copied().unwrap_or(0);
-        println!("places of strict text: {compared} compared, from 0 to {last}");
-        for place in 0..=LONGEST_ACCEPTED {
-            let met = self.places.contains_key(&place);
-            self.expect(met, || format!("no strict text at {place}"));
         }
     }
 }

@@ -14,9 +14,6 @@ mod known;
 mod list_sweeps;
 mod lists;
 mod peers;
-mod place;
-mod place_laws;
-mod place_sweeps;
 mod program;
 mod random;
 mod roundtrips;
@@ -95,8 +92,7 @@ fn main() -> ExitCode {
     println!("seed {}", options.seed);
     let started = Instant::now();
     let mut run = Run::new(options.seed);
-    let sweeps = sweeps::SWEEPS.iter().chain(&place_sweeps::SWEEPS);
-    let sweeps = sweeps.chain(&list_sweeps::SWEEPS);
+    let sweeps = sweeps::SWEEPS.iter().chain(&list_sweeps::SWEEPS);
     for sweep in sweeps.chain(&sheet_sweeps::SWEEPS) {
         sweep(&mut run);
     }

@@ -20,19 +20,11 @@ const LARGE_LINES: usize = 5_000;
 /// The name of standard input where something is told of it.
 pub const STANDARD_INPUT: &str = "(standard input)";
 
-/// What a line can come to: blocks, or a refusal, by 2 with the place of either address or with none.
-const OUTCOMES: [&str; 7] = [
-    "accepted",
-    "refused 1",
-    "refused 2",
-    "refused 2 at a place of the first address",
-    "refused 2 at a place of the second",
-    "refused 8",
-    "refused 9",
-];
+/// What a line can come to: blocks (0), or one of these refusals.
+const OUTCOMES: [u32; 5] = [0, 1, 2, 8, 9];
 
 /// Inputs that are worth a run of their own.
-const FIXED: [&str; 16] = [
+const FIXED: [&str; 12] = [
     "",
     "\n",
     "\n\n",
@@ -45,10 +37,6 @@ const FIXED: [&str; 16] = [
     "0.0.0.1 255.255.255.254\n0.0.0.0 255.255.255.255\n\n1.1.1.1 ::\n2.2.2.2 1.1.1.1",
     "\0",
     "1.2.3.4 1.2.3.4\n\0\n1.2.3.4 1.2.3.4",
-    "10.0.0.1 1.2.3.256\n1.2.3.256 10.0.0.1\n256. 010.0.0.12\n:: 256.\n1:2:3:4:5:6:7: ::\n",
-    "::1%eth0 ::\n:: ::1%eth0\n1.2.3 1.2.3\n1.2.3.4 1.2.3\n::256. ::\n:1 :1",
-    " \n 1.2.3.4\n1.2.3.4 \n  \nx x\n1.2.3.4 1.2.3.4 \n",
-    "1.2.3.4\t 1.2.3.4\n1.2.3.4 \u{e9}\n~ 1.2.3.4\n1.2.3.4\u{7f} 1.2.3.4",
 ];
 
 /// What is run: the program, or the script, which ends with the program's status and may have each
@@ -113,21 +101,17 @@ fn expected(kind: Kind, explain: bool, input: &[u8]) -> Ended {
     Ended {
         output: rules::ranges_program(input),
         error: told
-            .flat_map(|(number, line, refused)| {
-                let mut note = note(STANDARD_INPUT, *number, &refused.answer(), refused.refusal);
-                note.extend(refused.shown(line).bytes());
-                note
-            })
+            .flat_map(|&(line, refusal)| note(STANDARD_INPUT, line, refusal))
             .collect(),
         status: Some(status),
     }
 }
 
-/// What is told of a refused line: `FILE:LINE: ANSWER: WORDS`, with the words of the library.
-pub fn note(file: &str, line: usize, answer: &str, refusal: u32) -> Vec<u8> {
+/// What is told of a refused line: `FILE:LINE: refused N: WORDS`, with the words of the library.
+pub fn note(file: &str, line: usize, refusal: u32) -> Vec<u8> {
     let mut words = [0; REFUSAL_TEXT_ROOM];
     let length = exact::refusal_text(refusal, &mut words).bytes;
-    let mut note = format!("{file}:{line}: {answer}: ").into_bytes();
+    let mut note = format!("{file}:{line}: refused {refusal}: ").into_bytes();
     note.extend(&words[..length]);
     note.push(b'\n');
     note
@@ -142,31 +126,31 @@ impl fmt::Display for Kind {
     }
 }
 
-fn report(judge: &mut Judge, kind: Kind, outcomes: &BTreeMap<&str, u64>, runs: usize, lines: u64) {
-    println!("{kind}: {runs} runs, {lines} lines");
+fn report(judge: &mut Judge, kind: Kind, outcomes: &BTreeMap<u32, u64>, runs: usize, lines: u64) {
+    let count = |outcome| outcomes.get(&outcome).copied().unwrap_or(0);
+    let refused: Vec<String> = OUTCOMES[1..]
+        .iter()
+        .map(|&refusal| format!("{refusal}: {}", count(refusal)))
+        .collect();
+    println!(
+        "{kind}: {runs} runs, {lines} lines, {} accepted, refused {}",
+        count(0),
+        refused.join(", ")
+    );
     for outcome in OUTCOMES {
-        let count = outcomes.get(outcome).copied().unwrap_or(0);
-        println!("  {count:>9} {outcome}");
-        judge.expect(count > 0, || {
-            format!("no line of the {kind} with outcome: {outcome}")
+        judge.expect(count(outcome) > 0, || {
+            format!("no line of the {kind} with outcome {outcome}")
         });
     }
 }
 
-/// What a single line comes to.
-fn outcome(line: &[u8]) -> &'static str {
-    let refused = rules::refused_lines(line);
-    let Some((_, _, refused)) = refused.first() else {
-        return OUTCOMES[0];
-    };
-    match (refused.refusal, refused.place, refused.start) {
-        (1, ..) => OUTCOMES[1],
-        (2, None, _) => OUTCOMES[2],
-        (2, Some(_), 0) => OUTCOMES[3],
-        (2, Some(_), _) => OUTCOMES[4],
-        (8, ..) => OUTCOMES[5],
-        _ => OUTCOMES[6],
-    }
+/// 0 or the refusal that a single line comes to.
+fn outcome(line: &[u8]) -> u32 {
+    let output = rules::ranges_program(line);
+    let refusal = output
+        .strip_prefix(b"refused ")
+        .and_then(|number| number.first());
+    refusal.map_or(0, |digit| u32::from(digit - b'0'))
 }
 
 /// Runs the program or the script. Its input comes in pieces of random size.

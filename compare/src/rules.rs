@@ -5,7 +5,6 @@
 //! Each public function answers as the library does: `Err` is the number of the refusal and leaves
 //! the buffer as it was, `Ok` changes only the bytes it counts at the buffer's start.
 
-use crate::place;
 use std::net::{IpAddr, Ipv4Addr};
 
 pub const TEXT_TOO_LONG: u32 = 1;
@@ -23,30 +22,14 @@ const LONGEST_TEXT: usize = 64;
 const LONGEST_LINE: usize = 129;
 pub const MOST_RECORDS: usize = 512;
 
-/// A refusal of strict text, and its place: 0 but for refusal 2.
-pub type Placed = (u32, usize);
-
-pub fn read_address(text: &[u8], family: u32, out: &mut [u8]) -> Result<usize, Placed> {
-    let address = placed(text, family)?;
-    put(&octets(address), out).map_err(|refusal| (refusal, 0))
-}
-
-/// The strict address of a family, or its refusal and its place.
-fn placed(text: &[u8], family: u32) -> Result<IpAddr, Placed> {
-    strict_of(text, family).map_err(|refusal| match refusal {
-        MALFORMED => (refusal, place::of(text, family)),
-        _ => (refusal, 0),
-    })
-}
-
-/// The strict address of a family: 4, 6, or 0 for either.
-pub fn strict_of(text: &[u8], family: u32) -> Result<IpAddr, u32> {
+pub fn read_address(text: &[u8], family: u32, out: &mut [u8]) -> Result<usize, u32> {
     if ![0, 4, 6].contains(&family) {
         return Err(WRONG_FAMILY);
     }
-    match (family, strict(limited(text)?)?) {
+    let address = strict(limited(text)?)?;
+    match (family, address) {
         (4, IpAddr::V6(_)) | (6, IpAddr::V4(_)) => Err(MALFORMED),
-        (_, address) => Ok(address),
+        _ => put(&octets(address), out),
     }
 }
 
@@ -155,61 +138,20 @@ pub fn ranges_program(input: &[u8]) -> Vec<u8> {
                     output.push(b'\n');
                 }
             }
-            Err(refused) => output.extend(format!("{}\n", refused.answer()).bytes()),
+            Err(refusal) => output.extend(format!("refused {refusal}\n").bytes()),
         }
     }
     output
 }
 
-/// Why the range program refuses a line. An address that is refused by 2 has a place, and starts
-/// somewhere in the line.
-#[derive(Debug, PartialEq)]
-pub struct RefusedLine {
-    pub refusal: u32,
-    pub place: Option<usize>,
-    pub start: usize,
-}
-
-impl RefusedLine {
-    /// The answer to the line.
-    pub fn answer(&self) -> String {
-        match self.place {
-            Some(place) => format!("refused {} at {place}", self.refusal),
-            None => format!("refused {}", self.refusal),
-        }
-    }
-
-    /// What the note on the line has below its first line: nothing unless there is a place, and
-    /// else the line, in which what is not printable ASCII shows as `?`, and a caret below the
-    /// place.
-    pub fn shown(&self, line: &[u8]) -> String {
-        let Some(place) = self.place else {
-            return String::new();
-        };
-        let printable = |&byte: &u8| match byte {
-            b' '..=b'~' => char::from(byte),
-            _ => '?',
-        };
-        let text: String = line.iter().map(printable).collect();
-        format!("{text}\n{}^\n", " ".repeat(self.start + place))
-    }
-}
-
-impl From<u32> for RefusedLine {
-    fn from(refusal: u32) -> Self {
-        Self {
-            refusal,
-            place: None,
-            start: 0,
-        }
-    }
-}
-
-/// The lines of an input that the range program refuses, each with its number, counted from 1.
-pub fn refused_lines(input: &[u8]) -> Vec<(usize, &[u8], RefusedLine)> {
+/// The lines of an input that the range program refuses, counted from 1, each with its refusal.
+pub fn refused_lines(input: &[u8]) -> Vec<(usize, u32)> {
+    let refusals = lines(input)
+        .into_iter()
+        .map(|line| range_of_line(line).err());
     (1..)
-        .zip(lines(input))
-        .filter_map(|(number, line)| Some((number, line, range_of_line(line).err()?)))
+        .zip(refusals)
+        .filter_map(|(line, refusal)| Some((line, refusal?)))
         .collect()
 }
 
@@ -222,23 +164,15 @@ fn lines(input: &[u8]) -> Vec<&[u8]> {
     lines
 }
 
-fn range_of_line(line: &[u8]) -> Result<Vec<(IpAddr, u32)>, RefusedLine> {
+fn range_of_line(line: &[u8]) -> Result<Vec<(IpAddr, u32)>, u32> {
     if line.len() > LONGEST_LINE {
-        return Err(TEXT_TOO_LONG.into());
+        return Err(TEXT_TOO_LONG);
     }
     let pieces: Vec<&[u8]> = line.split(|&byte| byte == b' ').collect();
     let [first, last] = pieces[..] else {
-        return Err(MALFORMED.into());
+        return Err(MALFORMED);
     };
-    let address = |text: &[u8], start| {
-        placed(text, 0).map_err(|(refusal, place)| RefusedLine {
-            refusal,
-            place: (refusal == MALFORMED).then_some(place),
-            start,
-        })
-    };
-    let (first, last) = (address(first, 0)?, address(last, first.len() + 1)?);
-    Ok(range(first, last)?)
+    range(strict(limited(first)?)?, strict(limited(last)?)?)
 }
 
 /// The text if it is short enough. What is not UTF-8 is of no form, and a zero byte or a blank is a
@@ -532,71 +466,31 @@ mod tests {
         );
         assert_eq!(
             ranges_program(b"::1 ::1\r\n::1 ::1"),
-            b"refused 2 at 3\n::1/128\n"
+            b"refused 2\n::1/128\n"
         );
         assert_eq!(ranges_program(&[b'1'; 129]), b"refused 2\n");
         assert_eq!(ranges_program(&[b'1'; 130]), b"refused 1\n");
         let long_first = format!("{} 1.1.1.1", "1".repeat(65));
         assert_eq!(ranges_program(long_first.as_bytes()), b"refused 1\n");
+        assert_eq!(
+            refused_lines(b"::2 ::1\n::1 ::1\n\nx"),
+            [(1, 8), (3, 2), (4, 2)]
+        );
+        assert_eq!(refused_lines(b"::1 ::1\n"), []);
         let malformed_before_long = format!("x {}", "1".repeat(65));
         assert_eq!(
             ranges_program(malformed_before_long.as_bytes()),
-            b"refused 2 at 0\n"
+            b"refused 2\n"
         );
-    }
-
-    /// The first refused address has the place, and there is none without exactly one space.
-    #[test]
-    fn range_program_tells_the_place() {
-        for (line, answer) in [
-            ("10.0.0.1 1.2.3.256", "refused 2 at 8\n"),
-            ("010.0.0.1 1.2.3.256", "refused 2 at 3\n"),
-            ("1.2.3 1.2.3.256", "refused 2 at 5\n"),
-            (" 1.1.1.1", "refused 2 at 0\n"),
-            ("1.1.1.1 ", "refused 2 at 0\n"),
-            (" ", "refused 2 at 0\n"),
-            ("  ", "refused 2\n"),
-            ("1.1.1.1", "refused 2\n"),
-            ("1.1.1.1 1.1.1.1 ", "refused 2\n"),
-        ] {
-            assert_eq!(
-                ranges_program(line.as_bytes()),
-                answer.as_bytes(),
-                "{line:?}"
-            );
-        }
-    }
-
-    #[test]
-    fn refused_lines_are_shown_with_their_places() {
-        let input = b"::2 ::1\n::1 ::1\n\n10.0.0.1 1.2.3.256\n:\xff\t~ ::";
-        let refused = refused_lines(input);
-        let told: Vec<(usize, String, String)> = refused
-            .iter()
-            .map(|(number, line, refused)| (*number, refused.answer(), refused.shown(line)))
-            .collect();
-        let row = |number, answer: &str, shown: &str| (number, answer.into(), shown.into());
-        let caret = "10.0.0.1 1.2.3.256\n                 ^\n";
-        assert_eq!(
-            told,
-            [
-                row(1, "refused 8", ""),
-                row(3, "refused 2", ""),
-                row(4, "refused 2 at 8", caret),
-                row(5, "refused 2 at 1", ":??~ ::\n ^\n"),
-            ]
-        );
-        assert_eq!(refused_lines(b"::1 ::1\n"), []);
     }
 
     #[test]
     fn earlier_refusals_win() {
         let long = [b'x'; 65];
-        assert_eq!(read_address(&long, 5, &mut []), Err((WRONG_FAMILY, 0)));
-        assert_eq!(read_address(&long, 4, &mut []), Err((TEXT_TOO_LONG, 0)));
-        assert_eq!(read_address(b"1::", 5, &mut []), Err((WRONG_FAMILY, 0)));
-        assert_eq!(read_address(b"1::", 4, &mut []), Err((MALFORMED, 1)));
-        assert_eq!(read_address(b"1::", 6, &mut []), Err((NO_ROOM, 0)));
+        assert_eq!(read_address(&long, 5, &mut []), Err(WRONG_FAMILY));
+        assert_eq!(read_address(&long, 4, &mut []), Err(TEXT_TOO_LONG));
+        assert_eq!(read_address(b"::", 4, &mut []), Err(MALFORMED));
+        assert_eq!(read_address(b"::", 6, &mut []), Err(NO_ROOM));
         assert_eq!(read_block(b"1.1.1.1/99", &mut []), Err(LENGTH_TOO_LARGE));
         assert_eq!(read_block(b"1.1.1.1/1000", &mut []), Err(MALFORMED));
         assert_eq!(write_network(&[0; 16], 99, &mut []), Err(WRONG_FAMILY));

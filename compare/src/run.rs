@@ -1,16 +1,15 @@
 //! One run: every call is put to the second implementation, to the peers, and back where there is a
-//! way back, and the places of strict text to their laws.
+//! way back.
 
 use crate::case::Case;
 use crate::judge::Judge;
 use crate::peers::Peers;
-use crate::{place_laws, roundtrips};
+use crate::roundtrips;
 
 pub struct Run {
     pub judge: Judge,
     peers: Peers,
     round_trips: u64,
-    place_laws: u64,
 }
 
 impl Run {
@@ -19,7 +18,6 @@ impl Run {
             judge: Judge::new(seed),
             peers: Peers::default(),
             round_trips: 0,
-            place_laws: 0,
         }
     }
 
@@ -28,7 +26,6 @@ impl Run {
         self.judge.compare(case, room);
         self.peers.compare(&mut self.judge, case);
         self.round_trips += u64::from(roundtrips::check(&mut self.judge, case));
-        self.place_laws += u64::from(place_laws::check(&mut self.judge, case));
     }
 
     /// Compares with ample room, with exactly enough, and with one byte too few.
@@ -44,10 +41,6 @@ impl Run {
     pub fn report(&mut self, all_met: bool) {
         self.judge.report();
         println!("round trips: {}", self.round_trips);
-        println!(
-            "strict texts held to the laws of places: {}",
-            self.place_laws
-        );
         self.peers.report(&mut self.judge, all_met);
     }
 }

@@ -157,9 +157,7 @@ fn expected(kind: Kind, asked: &Asked, name: &str, sheet: &[u8]) -> Ended {
     let refused = sheets::refused_line(sheet);
     match refused {
         None => output = respelt(sheet, asked.sorted),
-        Some((line, refusal)) if asked.explain => {
-            error = note(name, line, &format!("refused {refusal}"), refusal);
-        }
+        Some((line, refusal)) if asked.explain => error = note(name, line, refusal),
         Some((_, refusal)) => error = format!("{name}: refused {refusal}\n").into_bytes(),
     }
     let status = u8::from(refused.is_some());

@@ -2,15 +2,12 @@
 //! that were worked out by hand.
 
 use crate::case::{Answer, Case};
-use crate::rules::MALFORMED;
 
 /// What the buffer holds before a call.
 const KEPT: u8 = 0xa5;
 
 pub enum Outcome {
     Refused(u32),
-    /// By 2, at this place.
-    Malformed(usize),
     /// The fields besides the byte count, and the bytes written.
     Answer([u64; 2], Vec<u8>),
     /// That many blocks, in records of the given number of bytes.
@@ -33,15 +30,6 @@ impl Specimen {
                 let zero = Answer::default();
                 answer == Answer { refusal, ..zero }
             }
-            &Outcome::Malformed(place) => {
-                let (refusal, zero) = (MALFORMED, Answer::default());
-                answer
-                    == Answer {
-                        refusal,
-                        place,
-                        ..zero
-                    }
-            }
             Outcome::Answer(values, bytes) => {
                 (answer.refusal, &answer.values) == (0, values) && written == bytes
             }
@@ -63,7 +51,7 @@ pub const WHOLE_CASE: (&str, &str) = (
 pub fn rows() -> Vec<Specimen> {
     let mut rows = Vec::new();
     let mut row = |case, outcome| rows.push(Specimen { case, outcome });
-    row(strict("010.0.0.12"), Outcome::Malformed(3));
+    row(strict("010.0.0.12"), Outcome::Refused(2));
     row(loose("010.0.0.12"), bytes(&[8, 0, 0, 12]));
     row(loose("226.000.000.037"), bytes(&[226, 0, 0, 31]));
     row(loose("0x7f.1"), bytes(&[127, 0, 0, 1]));
@@ -71,7 +59,7 @@ pub fn rows() -> Vec<Specimen> {
     row(loose("1.2.65536"), Outcome::Refused(2));
     row(loose("08.0.0.1"), Outcome::Refused(2));
     row(loose("0x"), Outcome::Refused(2));
-    row(strict("1:2:3:4:5:6:7:8::"), Outcome::Malformed(15));
+    row(strict("1:2:3:4:5:6:7:8::"), Outcome::Refused(2));
     for (text, groups, normal) in [
         (
             "1:2:3:4:5:6:7::",
@@ -93,66 +81,10 @@ pub fn rows() -> Vec<Specimen> {
         row(strict(text), bytes(&address));
         row(Case::WriteAddress { address }, bytes(normal.as_bytes()));
     }
-    rows.extend(places());
     rows.extend(networks());
     rows.extend(blocks_and_ranges());
     rows.extend(lists());
     rows.extend(sheets());
-    rows
-}
-
-/// Each strict text with its places for families 4, 6 and 0.
-const PLACES: [(&str, [usize; 3]); 19] = [
-    ("1.2.3.256", [8, 1, 8]),
-    ("256.", [2, 3, 3]),
-    ("010.0.0.12", [1, 3, 3]),
-    ("1:2:3:4:5:6:7:8::", [1, 15, 15]),
-    ("1:2:3:4:5:6:7:", [1, 14, 14]),
-    (":1", [0, 1, 1]),
-    ("::256.", [0, 5, 5]),
-    ("::1%eth0", [0, 3, 3]),
-    ("", [0, 0, 0]),
-    ("1.2.3", [5, 1, 5]),
-    // one byte behind a whole text
-    ("1.2.3.4 ", [7, 1, 7]),
-    ("1.2.3.4.", [7, 1, 7]),
-    ("1:2:3:4:5:6:7:8:", [1, 15, 15]),
-    // a group more, or a second `::`
-    ("::2:3:4:5:6:7:8:", [0, 15, 15]),
-    ("1::2::", [1, 5, 5]),
-    // a dotted tail too early, too late, and with no room
-    ("1:2:3:4:5:1.", [1, 11, 11]),
-    ("1:2:3:4:5:6:7:1.", [1, 15, 15]),
-    ("::3:4:5:6:7:8:1.", [0, 15, 15]),
-    ("\u{e9}", [0, 0, 0]),
-];
-
-fn places() -> Vec<Specimen> {
-    let row = |text: &str, family, outcome| Specimen {
-        case: Case::ReadAddress {
-            text: text.into(),
-            family,
-        },
-        outcome,
-    };
-    let mut rows = Vec::new();
-    for (text, [four, six, either]) in PLACES {
-        rows.push(row(text, 4, Outcome::Malformed(four)));
-        rows.push(row(text, 6, Outcome::Malformed(six)));
-        rows.push(row(text, 0, Outcome::Malformed(either)));
-        rows.push(row(text, 5, Outcome::Refused(9)));
-    }
-    // The whole of 64 bytes is read, of which five groups and `::` are the beginning of a text.
-    let long = "1:2:3:4:5::".to_string() + &"x".repeat(53);
-    rows.push(row(&long, 0, Outcome::Malformed(11)));
-    rows.push(row(&(long + "x"), 0, Outcome::Refused(1)));
-    // No other call has a place, also for an address inside the text.
-    for text in ["010.0.0.12/8", "1.2.3.256/8", "1.2.3/8"] {
-        rows.push(Specimen {
-            case: Case::ReadBlock { text: text.into() },
-            outcome: Outcome::Refused(2),
-        });
-    }
     rows
 }
 

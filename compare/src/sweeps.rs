@@ -81,16 +81,13 @@ pub const SWEEPS: [Sweep; 11] = [
 ];
 
 /// The text put to every reader.
-fn readers(text: &[u8]) -> [Case; 6] {
+fn readers(text: &[u8]) -> [Case; 4] {
     let text = text.to_vec();
-    let strict = |family| Case::ReadAddress {
-        text: text.clone(),
-        family,
-    };
     [
-        strict(0),
-        strict(4),
-        strict(6),
+        Case::ReadAddress {
+            text: text.clone(),
+            family: 0,
+        },
         Case::ReadLoose { text: text.clone() },
         Case::ReadNetwork { text: text.clone() },
         Case::ReadBlock { text },

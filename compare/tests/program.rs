@@ -7,7 +7,6 @@ mod scratch;
 use calls::{in_pieces, interrupted, set_non_blocking, without_waiting};
 use scratch::{Ended, Scratch};
 use std::io::{self, Read, Write};
-use std::net::IpAddr;
 use std::process::Stdio;
 use std::sync::Once;
 
@@ -40,12 +39,6 @@ fn scratch(name: &str) -> Scratch {
         built.is("", "", 0);
     });
     scratch
-}
-
-/// The note on a line that has a place: the line as it is shown, and the caret below it.
-fn note_at(name: &str, line: usize, place: usize, shown: &str, caret: usize) -> String {
-    let (words, indent) = (WORDS[1].1, " ".repeat(caret));
-    format!("{name}:{line}: refused 2 at {place}: {words}\n{shown}\n{indent}^\n")
 }
 
 const LINES: usize = 100_000;
@@ -333,11 +326,10 @@ fn files_are_answered_each_by_itself() {
     scratch.file("two", b" 10.0.0.6\n::2 ::1\n10.0.0.1 10.0.0.1");
     let [malformed, above] = [WORDS[1].1, WORDS[2].1];
     scratch.sh("nibharrow ranges -e one two").is(
-        "refused 2\nrefused 2\nrefused 2 at 0\nrefused 8\n10.0.0.1/32\n",
+        "refused 2\nrefused 2\nrefused 2\nrefused 8\n10.0.0.1/32\n",
         &format!(
             "one:1: refused 2: {malformed}\none:2: refused 2: {malformed}\n\
-             {}two:2: refused 8: {above}\n",
-            note_at("two", 1, 0, " 10.0.0.6", 0)
+             two:1: refused 2: {malformed}\ntwo:2: refused 8: {above}\n"
         ),
         1,
     );
@@ -445,8 +437,7 @@ fn help_is_answered_without_waiting() {
     assert_eq!(unwritten.status, 2);
 }
 
-/// Lines of any bytes, none of which is a range: some are empty, some have one space, and some are
-/// longer than the buffers.
+/// Lines of any bytes, none of which is a range: some are empty, and some longer than the buffers.
 fn garbage() -> Vec<u8> {
     let mut state = 1u32;
     let mut garbage: Vec<u8> = (0..300_000)
@@ -457,175 +448,36 @@ fn garbage() -> Vec<u8> {
         .collect();
     garbage.extend(b"\n\n\n");
     garbage.extend([b'1'; 200_000]);
-    garbage.extend(b"\n::2 ::1\n::1 1.1.1.1\n::1 \xff\nlast");
+    garbage.extend(b"\n::2 ::1\n::1 1.1.1.1\nlast");
     garbage
-}
-
-/// The note on a line of garbage, which was answered so.
-fn note_on_garbage(number: usize, line: &[u8], answer: &str) -> String {
-    let refusal = answer.strip_prefix("refused ").expect("a refusal");
-    if let Some(place) = refusal.strip_prefix("2 at ") {
-        let place = place.parse().expect("a place");
-        let shown: String = line
-            .iter()
-            .map(|byte| match byte {
-                32..=126 => char::from(*byte),
-                _ => '?',
-            })
-            .collect();
-        let (first, _) = shown.split_once(' ').expect("one space");
-        // the first address is at fault, unless it is one
-        let start = first.parse::<IpAddr>().map_or(0, |_| first.len() + 1);
-        return note_at("garbage", number, place, &shown, start + place);
-    }
-    let words = WORDS.iter().find(|words| words.0 == refusal);
-    let words = words.expect("a refusal of a line").1;
-    format!("garbage:{number}: refused {refusal}: {words}\n")
 }
 
 #[test]
 fn garbage_is_refused_line_by_line() {
-    let (scratch, garbage) = (scratch("garbage"), garbage());
-    scratch.file("garbage", &garbage);
+    let scratch = scratch("garbage");
+    scratch.file("garbage", &garbage());
     let silent = scratch.sh("nibharrow ranges garbage");
     let explained = scratch.sh("nibharrow ranges -e garbage");
     let output = String::from_utf8(silent.output.clone()).expect("plain text");
-    let lines: Vec<&[u8]> = garbage.split(|&b| b == b'\n').collect();
-    assert_eq!(output.lines().count(), lines.len());
+    assert_eq!(
+        output.lines().count(),
+        garbage().split(|&b| b == b'\n').count()
+    );
     silent.is(&output, "", 1);
-    let notes: String = (1..)
-        .zip(lines.iter().zip(output.lines()))
-        .map(|(number, (line, answer))| note_on_garbage(number, line, answer))
+    let notes: String = output
+        .lines()
+        .enumerate()
+        .map(|(index, line)| {
+            let number = line.strip_prefix("refused ").expect("a refusal");
+            let words = WORDS.iter().find(|words| words.0 == number);
+            let words = words.expect("a refusal of a line").1;
+            format!("garbage:{}: refused {number}: {words}\n", index + 1)
+        })
         .collect();
     for (number, _) in WORDS {
         assert!(output.contains(&format!("refused {number}\n")), "{number}");
     }
-    assert!(output.contains("refused 2 at "));
     explained.is(&output, &notes, 1);
-}
-
-/// Each line with its place and where the caret stands, which is none where the line has not exactly
-/// one space.
-const PLACES: [(&str, Option<(usize, usize)>); 24] = [
-    // the first address at fault, and both
-    ("1.2.3.256 10.0.0.1", Some((8, 8))),
-    ("256. 10.0.0.1", Some((3, 3))),
-    ("010.0.0.12 10.0.0.13", Some((3, 3))),
-    ("1:2:3:4:5:6:7:8:: ::", Some((15, 15))),
-    ("1:2:3:4:5:6:7: 1.2.3.256", Some((14, 14))),
-    (":1 :1", Some((1, 1))),
-    ("::256. ::257.", Some((5, 5))),
-    ("x x", Some((0, 0))),
-    // the second
-    ("10.0.0.1 1.2.3.256", Some((8, 17))),
-    ("10.0.0.1 256.", Some((3, 12))),
-    (":: ::1%eth0", Some((3, 6))),
-    (":: x", Some((0, 3))),
-    ("10.0.0.1 10.0.0.6\r", Some((8, 17))),
-    // not finished
-    ("1.2.3 1.2.3.4", Some((5, 5))),
-    ("1.2.3.4 1.2.3", Some((5, 13))),
-    // one that is empty
-    (" 1.2.3.4", Some((0, 0))),
-    ("1.2.3.4 ", Some((0, 8))),
-    (" ", Some((0, 0))),
-    // not exactly one space
-    ("1.2.3.256", None),
-    ("  ", None),
-    ("1.2.3.256  10.0.0.1", None),
-    ("1.2.3.256 10.0.0.1 ", None),
-    ("1.2.3.256\t10.0.0.1", None),
-    ("", None),
-];
-
-#[test]
-fn place_is_counted_from_the_faulty_address_and_shown_by_a_caret() {
-    let scratch = scratch("places");
-    let mut input = GOOD.to_vec();
-    let (mut answers, mut notes) = (GOOD_ANSWER.to_string(), String::new());
-    for (line, (text, place)) in (3..).zip(PLACES) {
-        input.extend(format!("{text}\n").bytes());
-        match place {
-            Some((place, caret)) => {
-                answers += &format!("refused 2 at {place}\n");
-                notes += &note_at("lines", line, place, &text.replace('\r', "?"), caret);
-            }
-            None => {
-                answers += "refused 2\n";
-                notes += &format!("lines:{line}: refused 2: {}\n", WORDS[1].1);
-            }
-        }
-    }
-    scratch.file("lines", &input);
-    scratch.sh("nibharrow ranges lines").is(&answers, "", 1);
-    let explained = scratch.sh("nibharrow ranges -e lines");
-    explained.is(&answers, &notes, 1);
-    // a caret below each line that has a place, and below no other
-    let carets = notes.lines().filter(|line| line.trim_start() == "^");
-    assert_eq!(
-        carets.count(),
-        PLACES.iter().filter(|line| line.1.is_some()).count()
-    );
-}
-
-#[test]
-fn bytes_that_are_not_printable_are_shown_as_question_marks() {
-    let scratch = scratch("not_printable");
-    for (line, shown, place, caret) in [
-        (&b"1.2.3.4 1.2.\x1b[31m"[..], "1.2.3.4 1.2.?[31m", 4, 12),
-        (b"\0 ::1", "? ::1", 0, 0),
-        (b"\x1f~\x7f\x80\xff ::1", "?~??? ::1", 0, 0),
-        // a character of two bytes is two
-        ("::1 \u{e9}".as_bytes(), "::1 ??", 0, 4),
-        ("::\u{e9} ::1".as_bytes(), "::?? ::1", 2, 2),
-        (b"::1\t ::1\r", "::1? ::1?", 3, 3),
-    ] {
-        scratch.file("line", line);
-        scratch.sh("nibharrow ranges -e line").is(
-            &format!("refused 2 at {place}\n"),
-            &note_at("line", 1, place, shown, caret),
-            1,
-        );
-    }
-}
-
-#[test]
-fn longest_lines_have_their_places() {
-    let scratch = scratch("longest_places");
-    let longest = "1111:2222:3333:4444:5555:6666:255.255.255.255";
-    let (most, over) = ("1".repeat(64), "1".repeat(65));
-    for (line, place, caret) in [
-        (format!("{longest} {longest}x"), 45, 46 + 45),
-        (format!("{most} {most}"), 4, 4),
-        (format!("{longest} {most}"), 4, 46 + 4),
-    ] {
-        scratch.file("line", line.as_bytes());
-        scratch.sh("nibharrow ranges -e line").is(
-            &format!("refused 2 at {place}\n"),
-            &note_at("line", 1, place, &line, caret),
-            1,
-        );
-    }
-    // a line or an address that is too long has no place, and is not shown
-    let note = format!("line:1: refused 1: {}\n", WORDS[0].1);
-    for line in [
-        format!("{most} {most}1"),
-        format!("{over} x"),
-        format!("{longest} {over}"),
-    ] {
-        scratch.file("line", line.as_bytes());
-        scratch
-            .sh("nibharrow ranges -e line")
-            .is("refused 1\n", &note, 1);
-    }
-    // the first address decides
-    let line = format!("x {over}");
-    scratch.file("line", line.as_bytes());
-    scratch.sh("nibharrow ranges -e line").is(
-        "refused 2 at 0\n",
-        &note_at("line", 1, 0, &line, 0),
-        1,
-    );
 }
 
 #[test]
@@ -643,15 +495,12 @@ fn nothing_is_skipped_or_trimmed() {
         b"10.0.0.1 10.0.0.6 ",
     ];
     scratch.file("forms", &[&lines.join(&b'\n'), &b"\n"[..]].concat());
-    let notes: String = (2..=lines.len())
+    let notes: String = (1..=lines.len())
         .map(|line| format!("forms:{line}: refused 2: {}\n", WORDS[1].1))
         .collect();
-    // the carriage return is a wrong byte of the second address
-    scratch.sh("nibharrow ranges -e forms").is(
-        &format!("refused 2 at 8\n{}", "refused 2\n".repeat(lines.len() - 1)),
-        &(note_at("forms", 1, 8, "10.0.0.1 10.0.0.6?", 17) + &notes),
-        1,
-    );
+    scratch
+        .sh("nibharrow ranges -e forms")
+        .is(&"refused 2\n".repeat(lines.len()), &notes, 1);
 }
 
 #[test]
@@ -678,52 +527,15 @@ fn recipes_of_the_help_make_lines_of_other_forms_ranges() {
     }
 }
 
-/// The commands of a document that run the program, each with what is shown below it, up to the line
-/// that ends the example.
-fn examples(document: &str, end: &str) -> Vec<(String, String)> {
-    let mut examples: Vec<(String, String)> = Vec::new();
-    let mut inside = false;
-    for line in document.lines() {
-        if let Some(command) = line.strip_prefix("$ ") {
-            inside = command.contains("./nibharrow ranges");
-            if inside {
-                examples.push((command.to_string(), String::new()));
-            }
-        } else if line == end {
-            inside = false;
-        } else if let (true, Some((_, shown))) = (inside, examples.last_mut()) {
-            *shown += &format!("{line}\n");
-        }
-    }
-    examples
-}
-
-#[test]
-fn examples_of_the_documents_print_what_they_show() {
-    let scratch = scratch("examples");
-    let project = concat!(env!("CARGO_MANIFEST_DIR"), "/..");
-    for (document, end, count) in [("README.md", "```", 3), ("docs/nibharrow.1", ".Ed", 3)] {
-        let text = std::fs::read_to_string(format!("{project}/{document}")).expect("a document");
-        let examples = examples(&text, end);
-        assert_eq!(examples.len(), count, "{document}");
-        for (command, shown) in examples {
-            // what goes to standard error is shown as well
-            let ended = scratch.sh(&format!("cd '{project}' && {{ {command}; }} 2>&1"));
-            let printed = String::from_utf8(ended.output).expect("plain text");
-            assert_eq!(printed, shown, "{document}: {command}");
-        }
-    }
-}
-
 #[test]
 fn interrupted_calls_are_made_again() {
     let scratch = scratch("interrupted");
     scratch.file("many", &many_lines());
-    scratch.file("bad", b"::1 1.2.3.256\n");
+    scratch.file("bad", b"x\n");
     let ended = interrupted(&scratch, "range_main 3 -e many bad 3> status");
     ended.is(
-        &format!("{}refused 2 at 8\n", many_answers()),
-        &note_at("bad", 1, 8, "::1 1.2.3.256", 12),
+        &format!("{}refused 2\n", many_answers()),
+        &format!("bad:1: refused 2: {}\n", WORDS[1].1),
         0,
     );
     assert_eq!(scratch.read("status"), b"1");
@@ -741,14 +553,10 @@ fn calls_that_move_a_part_go_on_behind_it() {
         .map(|n| format!("10.0.{n}.7/32\n10.0.{n}.8/32\n"))
         .collect();
     scratch.file("lines", lines.as_bytes());
-    scratch.file("bad", b"x\n::1 1.2.3.256\n");
+    scratch.file("bad", b"x\n");
     in_pieces(&scratch, "range_main 3 -e lines bad 3> status").is(
-        &format!("{answers}refused 2\nrefused 2 at 8\n"),
-        &format!(
-            "bad:1: refused 2: {}\n{}",
-            WORDS[1].1,
-            note_at("bad", 2, 8, "::1 1.2.3.256", 12)
-        ),
+        &format!("{answers}refused 2\n"),
+        &format!("bad:1: refused 2: {}\n", WORDS[1].1),
         0,
     );
     assert_eq!(scratch.read("status"), b"1");

@@ -1,10 +1,9 @@
 use std::net::{IpAddr, Ipv4Addr, Ipv6Addr};
 
-use crate::address_refusal::placed;
 use crate::lend::{address_of, granted, lend, text_in, with_octets};
-use crate::raw::AddressRead;
+use crate::raw::Written;
 use crate::refusal::checked;
-use crate::{exact, room, AddressRefusal, Refusal};
+use crate::{exact, room, Refusal};
 
 /// Which addresses [`read_address_of`] takes, and of which family a list of blocks is.
 #[derive(Clone, Copy, Debug, Default, PartialEq, Eq, Hash)]
@@ -23,46 +22,42 @@ pub enum Family {
 /// IPv4 is four decimal parts of 0 to 255 with no leading zero. IPv6 is RFC 4291 section 2.2, with
 /// a dotted IPv4 tail if wished. Zones (`%eth0`), ports and brackets are refused.
 ///
-/// Refusals: [`TextTooLong`](Refusal::TextTooLong), and [`Malformed`](Refusal::Malformed) with its
-/// [place](AddressRefusal::place).
+/// Refusals: [`TextTooLong`](Refusal::TextTooLong), [`Malformed`](Refusal::Malformed).
 ///
 /// ```
-/// use nibharrow::{read_address, write_address, AddressRefusal};
+/// use nibharrow::{read_address, write_address, Refusal};
 ///
+/// assert_eq!(read_address("010.0.0.12"), Err(Refusal::Malformed));
 /// assert_eq!(write_address(read_address("1:2:3:4:5:6:7::")?), "1:2:3:4:5:6:7:0");
-/// // `010` may be a group of IPv6, and no dot is behind one that is the first.
-/// assert_eq!(read_address("010.0.0.12").unwrap_err().place(), Some(3));
 /// // Here `::` would stand for no group at all.
-/// assert_eq!(read_address("1:2:3:4:5:6:7:8::").unwrap_err().place(), Some(15));
-/// # Ok::<(), AddressRefusal>(())
+/// assert_eq!(read_address("1:2:3:4:5:6:7:8::"), Err(Refusal::Malformed));
+/// # Ok::<(), Refusal>(())
 /// ```
-pub fn read_address(text: impl AsRef<[u8]>) -> Result<IpAddr, AddressRefusal> {
+pub fn read_address(text: impl AsRef<[u8]>) -> Result<IpAddr, Refusal> {
     read_address_of(Family::Either, text)
 }
 
 /// Reads strict text as [`read_address`] does, of a family that is chosen as the program runs.
 ///
-/// Refusals: [`TextTooLong`](Refusal::TextTooLong), and [`Malformed`](Refusal::Malformed) with its
-/// [place](AddressRefusal::place), for text of the other family too.
-pub fn read_address_of(family: Family, text: impl AsRef<[u8]>) -> Result<IpAddr, AddressRefusal> {
-    let (octets, read) = read_octets::<{ room::ADDRESS }>(family, text.as_ref())?;
-    Ok(address_of(&octets[..read.bytes]))
+/// Refusals: [`TextTooLong`](Refusal::TextTooLong), and [`Malformed`](Refusal::Malformed) for text
+/// of the other family too.
+pub fn read_address_of(family: Family, text: impl AsRef<[u8]>) -> Result<IpAddr, Refusal> {
+    let (octets, written) = read_octets::<{ room::ADDRESS }>(family, text.as_ref())?;
+    Ok(address_of(&octets[..written.bytes]))
 }
 
 /// Reads strict text of an IPv4 address.
 ///
-/// Refusals: [`TextTooLong`](Refusal::TextTooLong), and [`Malformed`](Refusal::Malformed) with its
-/// [place](AddressRefusal::place).
-pub fn read_ipv4(text: impl AsRef<[u8]>) -> Result<Ipv4Addr, AddressRefusal> {
+/// Refusals: [`TextTooLong`](Refusal::TextTooLong), [`Malformed`](Refusal::Malformed).
+pub fn read_ipv4(text: impl AsRef<[u8]>) -> Result<Ipv4Addr, Refusal> {
     let (octets, _) = read_octets::<4>(Family::V4, text.as_ref())?;
     Ok(octets.into())
 }
 
 /// Reads strict text of an IPv6 address.
 ///
-/// Refusals: [`TextTooLong`](Refusal::TextTooLong), and [`Malformed`](Refusal::Malformed) with its
-/// [place](AddressRefusal::place).
-pub fn read_ipv6(text: impl AsRef<[u8]>) -> Result<Ipv6Addr, AddressRefusal> {
+/// Refusals: [`TextTooLong`](Refusal::TextTooLong), [`Malformed`](Refusal::Malformed).
+pub fn read_ipv6(text: impl AsRef<[u8]>) -> Result<Ipv6Addr, Refusal> {
     let (octets, _) = read_octets::<16>(Family::V6, text.as_ref())?;
     Ok(octets.into())
 }
@@ -71,8 +66,8 @@ pub fn read_ipv6(text: impl AsRef<[u8]>) -> Result<Ipv6Addr, AddressRefusal> {
 fn read_octets<const ROOM: usize>(
     family: Family,
     text: &[u8],
-) -> Result<([u8; ROOM], AddressRead), AddressRefusal> {
-    lend(|out| placed(exact::read_address(text, family as u32, out)))
+) -> Result<([u8; ROOM], Written), Refusal> {
+    lend(|out| checked(exact::read_address(text, family as u32, out)))
 }
 
 /// Writes the normal text of an address: dotted decimal, or RFC 5952 section 4.

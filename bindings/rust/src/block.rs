@@ -124,7 +124,7 @@ impl FromStr for Block {
 /// [`LengthTooLarge`](Refusal::LengthTooLarge), [`BitsBeyondLength`](Refusal::BitsBeyondLength).
 pub fn read_block(text: impl AsRef<[u8]>) -> Result<Block, Refusal> {
     let (octets, read) =
-        lend::<{ room::ADDRESS }, _, _>(|out| checked(exact::read_block(text.as_ref(), out)))?;
+        lend::<{ room::ADDRESS }, _>(|out| checked(exact::read_block(text.as_ref(), out)))?;
     // A length above 128 is refused, so no bit is lost.
     Ok(Block::answered(&octets[..read.bytes], read.length as u8))
 }

@@ -27,6 +27,6 @@ pub fn split(address: Ipv4Addr) -> Result<(u32, u32), Refusal> {
 ///
 /// Refusals: [`NoClass`](Refusal::NoClass), [`HostTooLarge`](Refusal::HostTooLarge).
 pub fn join(network: u32, host: u32) -> Result<Ipv4Addr, Refusal> {
-    let (octets, _) = lend::<4, _, _>(|out| checked(exact::join(network, host, out)))?;
+    let (octets, _) = lend::<4, _>(|out| checked(exact::join(network, host, out)))?;
     Ok(octets.into())
 }

@@ -5,7 +5,7 @@
 
 #![allow(unsafe_code)]
 
-use crate::raw::{self, AddressRead, BlockRead, BlocksWritten, NetworkHost, NetworkRead, Written};
+use crate::raw::{self, BlockRead, BlocksWritten, NetworkHost, NetworkRead, Written};
 
 /// Defines a function for each row. A row names the slices to be read, the numbers, and the buffer
 /// to be written, in this order, which every function of the header has.
@@ -36,7 +36,7 @@ macro_rules! calls {
 }
 
 calls! {
-    read_address = nibharrow_read_address(text; family; out) -> AddressRead;
+    read_address = nibharrow_read_address(text; family; out) -> Written;
     write_address = nibharrow_write_address(address; ; out) -> Written;
     read_loose = nibharrow_read_loose(text; ; out) -> Written;
     read_network = nibharrow_read_network(text; ; out) -> NetworkRead;

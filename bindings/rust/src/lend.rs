@@ -7,9 +7,9 @@ use crate::raw::Written;
 use crate::refusal::Refusal;
 
 /// Lends `call` a buffer of `ROOM` zeros and gives it back with the answer.
-pub(crate) fn lend<const ROOM: usize, A, E>(
-    call: impl FnOnce(&mut [u8]) -> Result<A, E>,
-) -> Result<([u8; ROOM], A), E> {
+pub(crate) fn lend<const ROOM: usize, A>(
+    call: impl FnOnce(&mut [u8]) -> Result<A, Refusal>,
+) -> Result<([u8; ROOM], A), Refusal> {
     let mut out = [0; ROOM];
     let answer = call(&mut out)?;
     Ok((out, answer))

@@ -2,9 +2,8 @@
 //! respelled, by a library proved to keep its rules.
 //!
 //! Every call of Nibharrow gives, for each input, the one answer that its rules fix, or one of ten
-//! [`Refusal`]s; of strict text it says [where](AddressRefusal::place) the text went wrong. No text is
-//! read by a rule that the caller did not ask for: `010.0.0.12` is refused as strict text, and is
-//! 8.0.0.12 in the loose form, in which a leading `0` means octal.
+//! [`Refusal`]s. No text is read by a rule that the caller did not ask for: `010.0.0.12` is refused
+//! as strict text, and is 8.0.0.12 in the loose form, in which a leading `0` means octal.
 //!
 //! | Job | Calls |
 //! |---|---|
@@ -24,7 +23,7 @@
 //!
 //! let address = read_address("2001:DB8:0:0:1:0:0:1")?;
 //! assert_eq!(write_address(address), "2001:db8::1:0:0:1");
-//! assert_eq!(read_address("1.2.3.256").unwrap_err().place(), Some(8));
+//! assert_eq!(read_address("010.0.0.12"), Err(Refusal::Malformed));
 //!
 //! let blocks = range_blocks(read_address("10.0.0.1")?, read_address("10.0.0.6")?)?;
 //! let texts: Vec<String> = blocks.iter().map(|block| block.to_string()).collect();
@@ -71,7 +70,6 @@
 #![deny(unsafe_code, unsafe_op_in_unsafe_fn)]
 
 mod address;
-mod address_refusal;
 mod block;
 mod classes;
 pub mod exact;
@@ -89,7 +87,6 @@ mod sheet;
 pub use address::{
     read_address, read_address_of, read_ipv4, read_ipv6, write_address, write_address_into, Family,
 };
-pub use address_refusal::AddressRefusal;
 pub use block::{read_block, write_block_into, Block};
 pub use classes::{join, split};
 pub use gather::{gather, gather_records, uncovered, uncovered_records};

@@ -19,6 +19,6 @@ use crate::{exact, Refusal};
 /// # Ok::<(), Refusal>(())
 /// ```
 pub fn read_loose(text: impl AsRef<[u8]>) -> Result<Ipv4Addr, Refusal> {
-    let (octets, _) = lend::<4, _, _>(|out| checked(exact::read_loose(text.as_ref(), out)))?;
+    let (octets, _) = lend::<4, _>(|out| checked(exact::read_loose(text.as_ref(), out)))?;
     Ok(octets.into())
 }

@@ -16,16 +16,6 @@ pub struct Written {
     pub bytes: usize,
 }
 
-/// Where strict text went wrong, which refusal 2 tells, and how many bytes of the address are at the
-/// start of the lent buffer.
-#[repr(C)]
-#[derive(Clone, Copy, Debug, PartialEq, Eq)]
-pub struct AddressRead {
-    pub refusal: u32,
-    pub place: u32,
-    pub bytes: usize,
-}
-
 /// A network's size in bits, and how many of its bytes are at the start of the lent buffer.
 #[repr(C)]
 #[derive(Clone, Copy, Debug, PartialEq, Eq)]
@@ -69,7 +59,7 @@ extern "C" {
         family: u32,
         out: *mut u8,
         out_length: usize,
-    ) -> AddressRead;
+    ) -> Written;
     pub fn nibharrow_write_address(
         address: *const u8,
         address_length: usize,

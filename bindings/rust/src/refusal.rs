@@ -1,18 +1,17 @@
 use std::fmt;
 
 use crate::lend::{granted, text_in};
-use crate::raw::{AddressRead, BlockRead, BlocksWritten, NetworkHost, NetworkRead, Written};
+use crate::raw::{BlockRead, BlocksWritten, NetworkHost, NetworkRead, Written};
 use crate::{exact, room};
 
-/// Why a call says no. The readers of strict addresses say where the text went wrong as well, by an
-/// [`AddressRefusal`](crate::AddressRefusal).
+/// Why a call says no.
 ///
 /// Its text comes from the library:
 ///
 /// ```
-/// use nibharrow::{read_block, Refusal};
+/// use nibharrow::{read_address, Refusal};
 ///
-/// let refusal = read_block("010.0.0.12/32").unwrap_err();
+/// let refusal = read_address("010.0.0.12").unwrap_err();
 /// assert_eq!(refusal, Refusal::Malformed);
 /// assert_eq!(refusal.number(), 2);
 /// assert_eq!(refusal.to_string(), "the text or the bytes are not of the form asked for");
@@ -104,7 +103,7 @@ macro_rules! answers {
     )*};
 }
 
-answers! { Written AddressRead NetworkRead NetworkHost BlockRead BlocksWritten }
+answers! { Written NetworkRead NetworkHost BlockRead BlocksWritten }
 
 /// The answer, or its refusal.
 pub(crate) fn checked<A: Answer>(answer: A) -> Result<A, Refusal> {

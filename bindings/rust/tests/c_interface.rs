@@ -77,7 +77,6 @@ macro_rules! layout {
 fn layouts() -> String {
     [
         layout!("nibharrow_written", raw::Written, refusal bytes),
-        layout!("nibharrow_address_read", raw::AddressRead, refusal place bytes),
         layout!("nibharrow_network_read", raw::NetworkRead, refusal size bytes),
         layout!("nibharrow_network_host", raw::NetworkHost, refusal network host),
         layout!("nibharrow_block_read", raw::BlockRead, refusal length bytes),
@@ -125,14 +124,6 @@ fn types_and_constants_are_those_of_the_header() {
     assert_eq!(printed, layouts() + &values());
 }
 
-/// The place stands where the answer had padding, so that the answer still comes back in two registers.
-#[test]
-fn the_answer_with_a_place_has_no_padding() {
-    let layout = layout!("read", raw::AddressRead, refusal place bytes);
-    let expected = "read 16 8\nread.refusal 0 4\nread.place 4 4\nread.bytes 8 8\n";
-    assert_eq!(layout, expected);
-}
-
 /// A text with each run of white space as one space.
 fn single_spaced(text: &str) -> String {
     text.split_whitespace().collect::<Vec<_>>().join(" ")
@@ -146,7 +137,6 @@ fn translated(declaration: &str) -> String {
         ("size_t ", "usize"),
         ("uint32_t ", "u32"),
         ("nibharrow_written ", "Written"),
-        ("nibharrow_address_read ", "AddressRead"),
         ("nibharrow_network_read ", "NetworkRead"),
         ("nibharrow_network_host ", "NetworkHost"),
         ("nibharrow_block_read ", "BlockRead"),

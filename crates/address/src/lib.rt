@@ -1,4 +1,6 @@
 // An IP address as a value of one of two kinds, why a call says no, and blocks of addresses.
+#![tactic(auto)]
+
 ghost use Rattle.std.specs.Prelude.{◌≡◌};
 ghost use Rattle.std.proofs.Math.Option.{some};
 ghost use Rattle.wide.specs.Value.{value};
@@ -9,21 +11,21 @@ ghost use Rattle.address.specs.Blocks.{block_reasons, block_refusal, same_block}
 use wide::Wide;
 
 // The halves of an IPv6 address are its first and its last 64 bits.
-#[derive(Drop)]
+#[derive(Clone, Copy)]
 pub enum Address {
     V4(u32),
     V6(u64, u64),
 }
 
 // A prefix: the addresses whose first `length` bits are those of `address`. Any value may be made; `check` tells a good one.
-#[derive(Drop)]
+#[derive(Clone, Copy)]
 pub struct Block {
     pub address: Address,
     pub length: u8,
 }
 
 // Why a call says no, in the order of the numbers 1 to 10.
-#[derive(Drop)]
+#[derive(Clone, Copy)]
 pub enum Refusal {
     TextTooLong,
     Malformed,
@@ -38,35 +40,35 @@ pub enum Refusal {
 }
 
 // What a reader of an address answers.
-#[derive(Drop)]
+#[derive(Clone, Copy)]
 pub enum Reading {
     Read(Address),
     Refused(Refusal),
 }
 
 // What a writer answers: the number of bytes at the start of the lent buffer.
-#[derive(Drop)]
+#[derive(Clone, Copy)]
 pub enum Writing {
     Wrote(usize),
     Refused(Refusal),
 }
 
 // What a reader of a block answers.
-#[derive(Drop)]
+#[derive(Clone, Copy)]
 pub enum BlockReading {
     Read(Block),
     Refused(Refusal),
 }
 
 // Whether a block value is good, or why not.
-#[derive(Drop)]
+#[derive(Clone, Copy)]
 pub enum Check {
     Valid,
     Refused(Refusal),
 }
 
 // How one address stands to another.
-#[derive(Drop)]
+#[derive(Clone, Copy)]
 pub enum Order {
     Below,
     Same,

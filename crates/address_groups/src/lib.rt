@@ -1,4 +1,6 @@
 // The eight groups of an IPv6 address, as one value.
+#![tactic(auto)]
+
 ghost use Rattle.std.specs.Prelude.{◌≡◌, ◌+◌, ◌*◌};
 ghost use Rattle.address_groups.specs.Groups.{groups_of, groups_address};
 

@@ -1,4 +1,6 @@
 // The text of a block: an address, a slash and a length, read and written.
+#![tactic(auto)]
+
 ghost use Rattle.std.specs.Prelude.{◌≡◌};
 ghost use Rattle.address.specs.Answers.{block_answer, writing_answer, write_answer, write_leaves};
 ghost use Rattle.address.specs.Blocks.{block_refusal};
@@ -11,7 +13,7 @@ use digits::read::{Leading, find};
 use normal::put_address;
 use output::{put, put_decimal};
 use store::store;
-use text::read_strict;
+use text::read_address;
 
 // The block of a text of either family.
 pub fn read_block(text: &[u8]) -> BlockReading
@@ -24,7 +26,7 @@ pub fn read_block(text: &[u8]) -> BlockReading
     if text.len() <= slash {
         return BlockReading::Refused(Refusal::Malformed);
     }
-    let Reading::Read(address) = read_strict(&text[..slash], 0) else {
+    let Reading::Read(address) = read_address(&text[..slash], 0) else {
         return BlockReading::Refused(Refusal::Malformed);
     };
     let Leading::Number(length, _) = whole_part(&text[slash + 1..], 999) else {

@@ -1,18 +1,14 @@
 -- What is claimed of the answers of the C interface: a promise about the paper's answer fixes each field. Assumes nothing.
 use mathlib.Core.Path.{◌≡◌}
 use Rattle.c_answers.specs.declared.Written.{Written}
-use Rattle.c_answers.specs.declared.AddressRead.{AddressRead}
 use Rattle.c_answers.specs.declared.NetworkRead.{NetworkRead}
 use Rattle.c_answers.specs.declared.NetworkHost.{NetworkHost}
 use Rattle.c_answers.specs.declared.BlockRead.{BlockRead}
 use Rattle.c_answers.specs.declared.BlocksWritten.{BlocksWritten}
-use Rattle.c_answers.specs.CAnswers.{written_answer, address_read_answer, network_read_answer, network_host_answer, block_read_answer, blocks_written_answer}
+use Rattle.c_answers.specs.CAnswers.{written_answer, network_read_answer, network_host_answer, block_read_answer, blocks_written_answer}
 
 pub one_written : (r s : Written) → written_answer r ≡ written_answer s → r ≡ s
 one_written r s h = λ i. record { refusal = (h i).number; bytes = (h i).fields }
-
-pub one_address_read : (r s : AddressRead) → address_read_answer r ≡ address_read_answer s → r ≡ s
-one_address_read r s h = λ i. record { refusal = (h i).number; place = (h i).fields.0; bytes = (h i).fields.1 }
 
 pub one_network_read : (r s : NetworkRead) → network_read_answer r ≡ network_read_answer s → r ≡ s
 one_network_read r s h = λ i. record { refusal = (h i).number; size = (h i).fields.0; bytes = (h i).fields.1 }

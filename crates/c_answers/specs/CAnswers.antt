@@ -2,7 +2,6 @@
 use Rattle.std.specs.Prelude.{ℕ}
 use Rattle.address.specs.Answers.{Answer, answer}
 use Rattle.c_answers.specs.declared.Written.{Written}
-use Rattle.c_answers.specs.declared.AddressRead.{AddressRead}
 use Rattle.c_answers.specs.declared.NetworkRead.{NetworkRead}
 use Rattle.c_answers.specs.declared.NetworkHost.{NetworkHost}
 use Rattle.c_answers.specs.declared.BlockRead.{BlockRead}
@@ -10,9 +9,6 @@ use Rattle.c_answers.specs.declared.BlocksWritten.{BlocksWritten}
 
 abbrev pub written_answer : Written → Answer ℕ
 written_answer r = record { number = r.refusal; fields = r.bytes }
-
-abbrev pub address_read_answer : AddressRead → Answer (ℕ × ℕ)
-address_read_answer r = record { number = r.refusal; fields = (r.place, r.bytes) }
 
 abbrev pub network_read_answer : NetworkRead → Answer (ℕ × ℕ)
 network_read_answer r = record { number = r.refusal; fields = (r.size, r.bytes) }
@@ -29,7 +25,3 @@ blocks_written_answer r = record { number = r.refusal; fields = (r.blocks, r.byt
 -- a number, and what a writer answers
 abbrev pub besides : ℕ → Answer ℕ → Answer (ℕ × ℕ)
 besides n a = answer (0, 0) a.number (n, a.fields)
-
--- a place, and what a writer answers: a refusal keeps its place (02, Req 02)
-abbrev pub placed : ℕ → Answer ℕ → Answer (ℕ × ℕ)
-placed p a = record { number = a.number; fields = (p, a.fields) }

@@ -1,38 +1,31 @@
 // The answers of the C interface, and the library's answers as these.
+#![tactic(auto)]
+
 ghost use Rattle.std.specs.Prelude.{◌≡◌, min};
 ghost use Rattle.address.specs.Answers.{refuses, writing_answer};
 ghost use Rattle.network.specs.Network.{network_reading_answer};
 ghost use Rattle.classes.specs.Classes.{splitting_answer};
 ghost use Rattle.records.specs.Records.{blocks_writing_answer};
-ghost use Rattle.c_answers.specs.CAnswers.{written_answer, address_read_answer, network_read_answer, network_host_answer, block_read_answer, blocks_written_answer, placed, besides};
+ghost use Rattle.c_answers.specs.CAnswers.{written_answer, network_read_answer, network_host_answer, block_read_answer, blocks_written_answer, besides};
 
 use address::{Refusal, Writing};
 use classes::Splitting;
 use network::NetworkReading;
 use records::BlocksWriting;
 
-// Every answer has the refusal's number first, 0 for none; where it is not 0, every other field is, but for the place of `AddressRead`.
+// Every answer has the refusal's number first, 0 for none; where it is not 0, every other field is.
 
 // How many bytes the call has written to the start of the lent buffer.
 #[repr(C)]
-#[derive(Drop)]
+#[derive(Clone, Copy)]
 pub struct Written {
     pub refusal: u32,
     pub bytes: usize,
 }
 
-// The place of a fault in a text, which refusal 2 carries, and how many bytes of the address are at the start of the lent buffer.
-#[repr(C)]
-#[derive(Drop)]
-pub struct AddressRead {
-    pub refusal: u32,
-    pub place: u32,
-    pub bytes: usize,
-}
-
 // The size of a network, and how many of its bytes are at the start of the lent buffer.
 #[repr(C)]
-#[derive(Drop)]
+#[derive(Clone, Copy)]
 pub struct NetworkRead {
     pub refusal: u32,
     pub size: u32,
@@ -41,7 +34,7 @@ pub struct NetworkRead {
 
 // The two numbers of an address of class A, B or C.
 #[repr(C)]
-#[derive(Drop)]
+#[derive(Clone, Copy)]
 pub struct NetworkHost {
     pub refusal: u32,
     pub network: u32,
@@ -50,7 +43,7 @@ pub struct NetworkHost {
 
 // The length of a block, and how many bytes of its address are at the start of the lent buffer.
 #[repr(C)]
-#[derive(Drop)]
+#[derive(Clone, Copy)]
 pub struct BlockRead {
     pub refusal: u32,
     pub length: u32,
@@ -59,7 +52,7 @@ pub struct BlockRead {
 
 // How many records are at the start of the lent buffer, and how many bytes they fill.
 #[repr(C)]
-#[derive(Drop)]
+#[derive(Clone, Copy)]
 pub struct BlocksWritten {
     pub refusal: u32,
     pub blocks: usize,
@@ -84,18 +77,6 @@ pub fn as_written(w: Writing) -> Written
     match w {
         Writing::Wrote(bytes) => Written { refusal: 0, bytes },
         Writing::Refused(e) => refused(e),
-    }
-}
-
-// A place beside what a writer of the address answers.
-pub fn as_address_read(place: u8, w: Writing) -> AddressRead
-    ensures { address_read_answer result ≡ placed place (writing_answer w) }
-{
-    let written = as_written(w);
-    AddressRead {
-        refusal: written.refusal,
-        place: place as u32,
-        bytes: written.bytes,
     }
 }
 

@@ -1,4 +1,6 @@
 // The classes A, B and C: an IPv4 address split into a network number and a host number, and joined again.
+#![tactic(auto)]
+
 ghost use Rattle.std.specs.Prelude.{◌≡◌, [], ◌∷◌, ◌+◌, ◌*◌, ◌^◌, ◌<◌, ltb};
 ghost use Rattle.address.specs.Answers.{precedence, answer, no_address, reading_answer, refusal};
 ghost use Rattle.address.specs.declared.Address.TheVariants.{V4};
@@ -7,7 +9,7 @@ ghost use Rattle.classes.specs.Classes.{splitting_answer, split_answer, join_ans
 use address::{Address, Reading, Refusal};
 
 // What splitting answers: the network number and the host number.
-#[derive(Drop)]
+#[derive(Clone, Copy)]
 pub enum Splitting {
     NetworkHost(u32, u32),
     Refused(Refusal),

@@ -1,5 +1,7 @@
 // A list of blocks gathered into the fewest, and what it does not cover, as records in a second lent buffer. One pass over the blocks in rising
 // order builds the runs of addresses, and each run, or each gap between two, goes through the walk of `runs`.
+#![tactic(auto)]
+
 ghost use Rattle.std.specs.Prelude.{◌≡◌, true, suc, ◌-◌, ◌^◌, ◌≤◌, ◌<◌, max, leb, length};
 ghost use Rattle.wide.specs.Value.{value};
 ghost use Rattle.cover.specs.Blocks.{IsBlock, after, range_blocks};
@@ -24,7 +26,7 @@ use wide::Wide;
 // ---- the blocks of a list, in order
 
 // The addresses of a block, and its length.
-#[derive(Drop)]
+#[derive(Clone, Copy)]
 struct Span {
     first: Wide,
     last: Wide,
@@ -112,7 +114,7 @@ fn order_records(size: usize, n: usize, records: &[u8], order: &mut [u16])
 
 // The run of addresses that is being built, and the index behind the records of the runs before it. A run that is one block so far has that
 // block's length: where another run follows, it is put without a walk.
-#[derive(Drop)]
+#[derive(Clone, Copy)]
 struct Run {
     first: Wide,
     last: Wide,

@@ -1,4 +1,6 @@
 // IPv4 text: four decimal parts with dots, read and written.
+#![tactic(auto)]
+
 ghost use Rattle.std.specs.Prelude.{◌≡◌};
 ghost use Rattle.output.specs.Placing.{Puts};
 ghost use Rattle.ipv4_text.specs.Dotted.{as_parts, parts_of, as_dotted, dotted_of, dotted_text};
@@ -8,14 +10,14 @@ use digits::read::Leading;
 use output::{put, put_decimal};
 
 // One to four parts of a text: the number that they write as octets, and how many they are.
-#[derive(Drop)]
+#[derive(Clone, Copy)]
 pub enum Parts {
     Numbers(u32, usize),
     NotParts,
 }
 
 // What a text of four parts is read as.
-#[derive(Drop)]
+#[derive(Clone, Copy)]
 pub enum Dotted {
     Value(u32),
     NotDotted,

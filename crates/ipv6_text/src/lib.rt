@@ -1,4 +1,6 @@
 // The eight groups of IPv6 text, read.
+#![tactic(auto)]
+
 ghost use Rattle.std.specs.Prelude.{◌≡◌, true, List, ℕ, ◌≤◌, ◌<◌, length, take, get_or};
 ghost use Rattle.std.proofs.Math.Option.{Option, some};
 ghost use Rattle.notation.specs.Options.{joined};
@@ -10,21 +12,21 @@ use digits::read::Leading;
 use ipv4_text::{Dotted, read_dotted};
 
 // Eight groups, if `ok`; else all are zero.
-#[derive(Drop)]
+#[derive(Clone, Copy)]
 pub struct Eight {
     pub ok: bool,
     pub groups: [u16; 8],
 }
 
 // Where the groups that were read belong: the first `gap` of `count` at the front, the others at the end. A count of 9 is a refusal.
-#[derive(Drop)]
+#[derive(Clone, Copy)]
 struct Layout {
     count: usize,
     gap: usize,
 }
 
 // What was read on one side of `::`: how many groups there are then, or 9, and the index behind `::`, or 0 where none was reached.
-#[derive(Drop)]
+#[derive(Clone, Copy)]
 struct Side {
     count: usize,
     next: usize,

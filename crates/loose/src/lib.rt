@@ -1,4 +1,6 @@
 // The loose IPv4 form, read: one to four parts in hexadecimal, octal or decimal.
+#![tactic(auto)]
+
 ghost use Rattle.std.specs.Prelude.{◌≡◌, cond, [], ◌+◌, ◌-◌, ◌*◌, ◌^◌, ◌≤◌, ◌<◌, ltb};
 ghost use Rattle.std.proofs.Math.Option.{some, none};
 ghost use Rattle.address.specs.Answers.{precedence, no_address, reading_answer, read_answer};

@@ -9,7 +9,7 @@ use ipv4_text::{Parts, read_parts};
 
 // The bytes as the first octets of a number whose other octets are zero, how many they are, and the index of the slash, or the
 // text's length where there is none.
-#[derive(Drop)]
+#[derive(Clone, Copy)]
 pub enum Given {
     Bytes(u32, usize, usize),
     NotGiven,

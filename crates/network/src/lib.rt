@@ -1,4 +1,6 @@
 // The network form of IPv4: a network number and its size, read and written.
+#![tactic(auto)]
+
 ghost use Rattle.std.specs.Prelude.{◌≡◌, cond, [], ◌∷◌, ◌≤◌, max, take};
 ghost use Rattle.notation.specs.BigEndian.{digits_of};
 ghost use Rattle.address.specs.Answers.{answer, write_refusal, write_leaves, writing_answer, write_answer};
@@ -21,7 +23,7 @@ mod given;
 // ---- reading
 
 // What the reader answers: the size in bits, and how many bytes are at the start of the lent buffer.
-#[derive(Drop)]
+#[derive(Clone, Copy)]
 pub enum NetworkReading {
     Read(u8, usize),
     Refused(Refusal),

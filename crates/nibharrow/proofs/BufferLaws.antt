@@ -1,13 +1,11 @@
 -- What is asked of a lent buffer, of each kind of call. Assumes nothing.
 use mathlib.Core.Path.{◌≡◌, refl, sym, ap, subst}
-use mathlib.Core.Logic.{◌↔◌}
 use mathlib.Core.Bool.{Bool, true, false, cond}
 use mathlib.Core.List.{List, ◌++◌}
 use Prim.Native.Nat.{ℕ, ◌+◌, ◌≤◌}
-use native.Mathlib.Decide.{ℕ_discrete}
 use native.Mathlib.Omega.{arith}
 use borrow.Author.Tests.{ne_eqb}
-use lib.Dec.{eqb, ltb}
+use lib.Dec.{eqb}
 use lib.ListN.{length, drop}
 use lib.Seq.{drop_at}
 use Rattle.address.specs.declared.Address.{Address}
@@ -16,11 +14,8 @@ use Rattle.address.specs.Answers.{Answer, refusal, answer, gives, write_refusal,
 use Rattle.address.proofs.AnswerLaws.{write_good}
 use Rattle.address.proofs.Claims.{written_held}
 use Rattle.octets.specs.Octets.{octets}
-use Rattle.text.specs.Strict.{strict_answer}
-use Rattle.place.specs.Place.{placed_answer}
-use Rattle.place.proofs.Claims.{no_other_place}
-use Rattle.c_answers.specs.CAnswers.{placed, besides}
-use Rattle.nibharrow.specs.Interface.{Outcome, outcome, when_given, refused_by, and_then, writes, address_into, strict_into}
+use Rattle.c_answers.specs.CAnswers.{besides}
+use Rattle.nibharrow.specs.Interface.{Outcome, outcome, when_given, refused_by, and_then, writes, address_into}
 use Rattle.nibharrow.specs.Buffers.{Careful, Wrote, Answered, Filled}
 use Rattle.nibharrow.proofs.RoundTripLaws.{good_writes, number_went_on}
 
@@ -81,31 +76,6 @@ module _ (bytes old : List ℕ) (room : length bytes ≤ length old) where
   pub into_filled : (x : Answer Address) (a : Address) → x ≡ gives a → octets a ≡ bytes → Filled (length bytes) bytes old (address_into x old)
   unfolding address_into when_given
   into_filled x a e f = rw (e, f) writes_filled
-
-  -- that of a strict text has no place beside it
-  pub strict_filled : (family : ℕ) (t : List ℕ) (a : Address) → strict_answer family t ≡ gives a → octets a ≡ bytes → Filled (0, length bytes) bytes old (strict_into family t old)
-  unfolding strict_into placed_answer
-  strict_filled family t a e f =
-      let w = into_filled (strict_answer family t) a e f in
-      let zero : (strict_answer family t).number ≡ 0 = ap (λ r. r.number) e in
-      let none = no_other_place family t (λ two. omega (arith, zero, two)) in
-      record { answered = λ i. placed (none i) (w.answered i); held = w.held; kept = w.kept }
-
--- ---- refusal 2
-
--- what an address is refused by, before it is put: never by 2 where it is given
-pub into_2 : (x : Answer Address) (old : List ℕ) → ((address_into x old).answers.number ≡ 2) ↔ (x.number ≡ 2)
-unfolding address_into when_given write_answer
-into_2 x old = elim (ℕ_discrete x.number 0) [
-  | yes z ↦ (λ e. absurd (never (ltb (length old) (length (octets x.fields))) (rw z at e)), λ e. absurd (omega (arith, z, e)))
-  | no n ↦ rw (ne_eqb x.number 0 n) (λ e. e, λ e. e)
-]
-  where
-    never : (b : Bool) → ¬ (cond {A = ℕ} b 3 0 ≡ 2)
-    never true e = omega (arith, e)
-    never false e = omega (arith, e)
-
--- ---- any bytes
 
 -- bytes of which a writer refuses nothing
 pub good_filled : {A : Type 0} (fields : A) (refused : ℕ) (bytes old : List ℕ) → (write_answer refused bytes old).number ≡ 0 → (x : Answer A) → x ≡ gives fields

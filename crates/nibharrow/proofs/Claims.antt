@@ -23,8 +23,6 @@ use Rattle.address.proofs.Claims.{written_held}
 use Rattle.octets.specs.Octets.{octets, octets_answer}
 use Rattle.octets.proofs.Claims.{octets_length, octets_read_back, octets_of_read, is_address, number_is}
 use Rattle.text.specs.Strict.{strict_answer}
-use Rattle.place.specs.Place.{LongestBeginning, placed_answer}
-use Rattle.place.proofs.Claims.{place_of_2, no_other_place}
 use Rattle.normal.specs.Normal.{normal_text}
 use Rattle.normal.proofs.Claims.{read_back_answer}
 use Rattle.normal.proofs.Claims as normal
@@ -49,13 +47,13 @@ use Rattle.sheet_answers.proofs.Claims as sheets
 use Rattle.words.specs.Words.{words_text, words_refusal}
 use Rattle.words.proofs.Claims as words
 use Rattle.c_answers.specs.CAnswers.{besides}
-use Rattle.nibharrow.specs.Interface.{Outcome, outcome, when_given, writes, address_into, strict_into, address_written, network_into, network_writes, network_written, octets_split, block_into, block_writes, block_written, range_to, range_into, gather_into, uncovered_into, respell_into, words_into}
-use Rattle.nibharrow.specs.Buffers.{Careful, Wrote, Answered, Filled}
+use Rattle.nibharrow.specs.Interface.{Outcome, outcome, when_given, writes, address_into, address_written, network_into, network_writes, network_written, octets_split, block_into, block_writes, block_written, range_to, range_into, gather_into, uncovered_into, respell_into, words_into}
+use Rattle.nibharrow.specs.Buffers.{Wrote, Answered, Filled}
 use Rattle.nibharrow.proofs.InterfaceLaws.{both, when_given_lem, refused_on}
 use Rattle.nibharrow.proofs.InterfaceLaws as interface
 use Rattle.nibharrow.proofs.RoundTripLaws.{good_writes, outcome_went_on, number_went_on, answer_went_on, split_four}
 use Rattle.nibharrow.proofs.RoundTripLaws as laws
-use Rattle.nibharrow.proofs.BufferLaws.{judged, after, written, beside, beside_filled, into_filled, strict_filled, into_2, good_filled, text_held}
+use Rattle.nibharrow.proofs.BufferLaws.{judged, after, written, beside, beside_filled, into_filled, good_filled, text_held}
 
 -- ---- demand 1
 
@@ -63,14 +61,6 @@ module _ (old : List ℕ) where
   pub address_into_lem : (a : Answer Address) → Wrote old (address_into a old)
   unfolding address_into
   address_into_lem a = after 0 (λ n. n) old a _ (λ x. written old _ _)
-
-  -- of a strict text, as 02, Req 02 amends it: every other field but the place
-  pub strict_into_lem : (family : ℕ) (t : List ℕ) → Careful ((placed_answer family t).fields.1, 0) (λ r. r.1) old (strict_into family t old)
-  unfolding strict_into placed_answer
-  strict_into_lem family t =
-      let c = address_into_lem (strict_answer family t) in
-      let place = (placed_answer family t).fields.1 in
-      record { refused = λ h. let (z, l) = c.refused h in (λ i. (place, z i), l); kept = c.kept }
 
   pub address_written_lem : (bytes : List ℕ) → Wrote old (address_written bytes old)
   unfolding address_written
@@ -187,36 +177,14 @@ module _ (bytes old : List ℕ) (a : Address) (is : octets_answer bytes ≡ give
   unfolding range_into range_to
   range_taken last b is_b = sym (when_given_lem _ _ (octets_answer bytes) a (sym is)) ∙ sym (when_given_lem _ _ (octets_answer last) b (sym is_b))
 
--- ---- a strict text, and where it goes wrong
-
-module _ (family : ℕ) (t old : List ℕ) where
-  -- Without the place it is what is read of the text, put into the buffer: what is said of `address_into` is said of it.
-  pub strict_put : let o = address_into (strict_answer family t) old in
-      ((strict_into family t old).answers.number ≡ o.answers.number) × ((strict_into family t old).answers.fields.1 ≡ o.answers.fields) × ((strict_into family t old).leaves ≡ o.leaves)
-  unfolding strict_into placed_answer
-  strict_put = (refl, refl, refl)
-
-  -- "refusal 2 shall carry a place: the length of the longest beginning of the text that is also the beginning of some accepted text of the
-  -- family asked for",
-  pub strict_place : (strict_into family t old).answers.number ≡ 2 → (p : ℕ) → ((strict_into family t old).answers.fields.0 ≡ p) ↔ LongestBeginning family t p
-  unfolding strict_into placed_answer
-  strict_place h = place_of_2 family t ((into_2 (strict_answer family t) old).0 h)
-
-  -- "Other refusals carry place zero", and so does a good answer.
-  pub strict_no_place : ¬ ((strict_into family t old).answers.number ≡ 2) → (strict_into family t old).answers.fields.0 ≡ 0
-  unfolding strict_into placed_answer
-  strict_no_place n = no_other_place family t (λ e. n ((into_2 (strict_answer family t) old).1 e))
-
 -- Demand 2 through the interface: the octets of an address are written as its normal text, and that text is read back to the octets, asked
--- for either family or for its own, with no place.
-pub read_back : (a : Address) → IsAddress a → (old : List ℕ) → length (octets a) ≤ length old
+-- for either family or for its own.
+pub read_back : (a : Address) → IsAddress a → (old : List ℕ)
     → (address_written (octets a) old ≡ writes 0 (normal_text a) old)
-    × Filled (0, length (octets a)) (octets a) old (strict_into 0 (normal_text a) old)
-    × Filled (0, length (octets a)) (octets a) old (strict_into (family a) (normal_text a) old)
-unfolding address_written when_given
-read_back a h old room =
-    let back = read_back_answer a h in
-    (rw (octets_read_back a h), strict_filled (octets a) old room 0 (normal_text a) a back.0 refl, strict_filled (octets a) old room (family a) (normal_text a) a back.1 refl)
+    × (address_into (strict_answer 0 (normal_text a)) old ≡ writes 0 (octets a) old)
+    × (address_into (strict_answer (family a) (normal_text a)) old ≡ writes 0 (octets a) old)
+unfolding address_into address_written when_given
+read_back a h old = let back = read_back_answer a h in (rw (octets_read_back a h), rw back.0, rw back.1)
 
 -- ---- the caller's buffers
 
@@ -275,16 +243,16 @@ module _ (bytes old : List ℕ) where
 -- family or for that of the address.
 pub address_back : (bytes old : List ℕ) (n : ℕ) → AllBelow 256 bytes → (address_written bytes old).answers ≡ gives n → (buf : List ℕ) → length bytes ≤ length buf
     → let text = take n (address_written bytes old).leaves in
-    Filled (0, length bytes) bytes buf (strict_into 0 text buf)
-    × Filled (0, length bytes) bytes buf (strict_into (family (octets_answer bytes).fields) text buf)
+    Filled (length bytes) bytes buf (address_into (strict_answer 0 text) buf)
+    × Filled (length bytes) bytes buf (address_into (strict_answer (family (octets_answer bytes).fields) text) buf)
 unfolding address_written
 address_back bytes old n small good buf room =
     let a = (octets_answer bytes).fields in
     let (is, on, wrote) = outcome_went_on 0 old (octets_answer bytes) (λ a. writes 0 (normal_text a) old) n good in
     let back = normal.written_read_back a (is_address bytes a small is) old n wrote in
     let same = octets_of_read bytes a small is in (
-      strict_filled bytes buf room 0 _ a (ap (λ o. strict_answer 0 (take n o.leaves)) on ∙ back.0) same,
-      strict_filled bytes buf room (family a) _ a (ap (λ o. strict_answer (family a) (take n o.leaves)) on ∙ back.1) same,
+      into_filled bytes buf room _ a (ap (λ o. strict_answer 0 (take n o.leaves)) on ∙ back.0) same,
+      into_filled bytes buf room _ a (ap (λ o. strict_answer (family a) (take n o.leaves)) on ∙ back.1) same,
     )
 
 -- "Reading this gives the same size, and bytes which, filled with zeros to four, are the cleared address": of the number that the octets write.
@@ -515,7 +483,7 @@ words_held k old n good = let w = written_held (words_refusal k) (words_text k) 
 -- ---- numbers that no byte holds
 
 -- A family, a size or a length that no byte holds is as wrong as 255: what is promised of the number cut to a byte is promised of the number.
-pub family_cut : (family : ℕ) (t : List ℕ) → placed_answer (min family 255) t ≡ placed_answer family t
+pub family_cut : (family : ℕ) (t : List ℕ) → strict_answer (min family 255) t ≡ strict_answer family t
 family_cut family t = interface.family_cut family (min family 255) t refl
 
 pub size_cut : (a : Address) (size : ℕ) (old : List ℕ) → network_writes a (min size 255) old ≡ network_writes a size old

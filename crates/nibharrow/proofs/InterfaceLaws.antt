@@ -18,22 +18,20 @@ use Rattle.address.specs.declared.Refusal.TheVariants.{LengthTooLarge, WrongFami
 use Rattle.address.specs.Answers.{Answer, gives, refuses, refusal_number, no_address, reading_answer, write_answer, write_leaves}
 use Rattle.address.proofs.AnswerLaws.{nonzero, write_other}
 use Rattle.address.proofs.BlockLaws.{refusal_length}
-use Rattle.octets.specs.Octets.{octets}
 use Rattle.text.specs.Strict.{known_family, strict_answer}
-use Rattle.place.specs.Place.{placed_answer}
-use Rattle.place.proofs.PlaceLaws.{placed_unknown}
+use Rattle.text.proofs.StrictLaws.{strict_unknown}
 use Rattle.network.specs.NetworkText.{network_text}
 use Rattle.network.proofs.TextLaws.{write_6, write_large}
 use Rattle.blocks.specs.BlockText.{block_text}
 use Rattle.blocks.proofs.BlockTextLaws.{width_most}
-use Rattle.c_answers.specs.CAnswers.{placed, besides}
+use Rattle.c_answers.specs.CAnswers.{besides}
 use Rattle.cover.specs.Blocks as cover
 use Rattle.record_lists.specs.RecordLists.{is_family}
 use Rattle.record_lists.proofs.AnswerLaws.{list_unknown}
 use Rattle.record_lists.proofs.GoodLaws.{refused_number}
 use Rattle.list_answers.specs.ListAnswers.{blocks_answer, blocks_leave}
 use Rattle.list_answers.proofs.AnswerLaws.{list_refused}
-use Rattle.nibharrow.specs.Interface.{Outcome, outcome, when_given, refused_by, and_then, address_into, placed_into, strict_into, range_to, writes, network_writes, block_writes}
+use Rattle.nibharrow.specs.Interface.{Outcome, outcome, when_given, refused_by, and_then, address_into, range_to, writes, network_writes, block_writes}
 
 -- equal answers and equal buffers
 pub both : {A : Type 0} {a b : Answer A} {l m : List ℕ} → a ≡ b → l ≡ m → outcome a l ≡ outcome b m
@@ -75,23 +73,6 @@ to_same first x y old o p q = p ∙ ap (λ a. range_to first a old) q
 pub into_same : (x y : Answer Address) (old : List ℕ) (o : Outcome ℕ) → o ≡ address_into x old → x ≡ y → o ≡ address_into y old
 into_same x y old o p q = p ∙ ap (λ a. address_into a old) q
 
--- ---- a strict text
-
--- an address goes on, with no place
-pub placed_given : (a : Address) (old : List ℕ) → outcome (placed 0 (write_answer 0 (octets a) old)) (write_leaves 0 (octets a) old) ≡ placed_into (gives (a, 0)) old
-unfolding placed_into when_given
-placed_given a old = refl
-
--- and a refusal stands, with its own
-pub placed_refused : (e : Refusal) (p : ℕ) (old : List ℕ) → outcome (placed p (refuses 0 e)) old ≡ placed_into (refuses (no_address, p) e) old
-unfolding placed_into when_given
-placed_refused e p old = rw (nonzero e)
-
-pub strict_same : (family n : ℕ) (t old : List ℕ) (o : Outcome (ℕ × ℕ)) (x : Answer (Address × ℕ)) → o ≡ placed_into x old → x ≡ placed_answer n t → placed_answer n t ≡ placed_answer family t
-    → o ≡ strict_into family t old
-unfolding strict_into
-strict_same family n t old o x p q r = p ∙ ap (λ a. placed_into a old) (q ∙ r)
-
 -- ---- a number cut to a byte
 
 -- what a function gives of a number that is cut to 255, where it gives the same of all that are larger
@@ -99,8 +80,8 @@ cut : {R : Type 0} (f : ℕ → R) (n m : ℕ) → m ≡ min n 255 → (255 < n 
 cut f n m e large = elim (dec_le n 255) [ yes h ↦ ap f (omega arith) | no h ↦ ap f (omega arith) ∙ large (omega arith) ]
 
 -- a family above 255 is unknown
-pub family_cut : (family n : ℕ) (t : List ℕ) → n ≡ min family 255 → placed_answer n t ≡ placed_answer family t
-family_cut family n t e = cut (λ m. placed_answer m t) family n e (λ h. sym (placed_unknown 255 t refl) ∙ placed_unknown family t (unknown h))
+pub family_cut : (family n : ℕ) (t : List ℕ) → n ≡ min family 255 → strict_answer n t ≡ strict_answer family t
+family_cut family n t e = cut (λ m. strict_answer m t) family n e (λ h. sym (strict_unknown 255 t refl) ∙ strict_unknown family t (unknown h))
   where
     unknown : 255 < family → known_family family ≡ false
     unknown h = rw (ne_eqb family 4 (omega arith), ne_eqb family 6 (omega arith), ne_eqb family 0 (omega arith))

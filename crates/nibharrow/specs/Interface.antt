@@ -7,7 +7,6 @@ use Rattle.address.specs.Addresses.{number}
 use Rattle.address.specs.Answers.{Answer, write_answer, write_leaves}
 use Rattle.address.specs.Blocks.{block_refusal}
 use Rattle.octets.specs.Octets.{octets, octets_answer}
-use Rattle.place.specs.Place.{placed_answer}
 use Rattle.normal.specs.Normal.{normal_text}
 use Rattle.network.specs.NetworkText.{network_text, write_network_refusal}
 use Rattle.network.specs.Network.{network_answer, network_leaves}
@@ -17,7 +16,7 @@ use Rattle.ranges.specs.Ranges.{range_answer, range_leaves}
 use Rattle.list_answers.specs.ListAnswers.{gather_answer, gather_leaves, uncovered_answer, uncovered_leaves}
 use Rattle.sheet_answers.specs.SheetAnswers.{respell_answer, respell_leaves}
 use Rattle.words.specs.Words.{words_text, words_refusal}
-use Rattle.c_answers.specs.CAnswers.{placed, besides}
+use Rattle.c_answers.specs.CAnswers.{besides}
 
 -- ---- outcomes
 
@@ -46,21 +45,9 @@ writes n bytes old = outcome (write_answer n bytes old) (write_leaves n bytes ol
 
 -- ---- the calls
 
--- the address of an answer, put into a lent buffer: `nibharrow_read_loose`, `nibharrow_join`
+-- the address of an answer, put into a lent buffer: `nibharrow_read_address`, `nibharrow_read_loose`, `nibharrow_join`
 unfoldable pub address_into : Answer Address → List ℕ → Outcome ℕ
 address_into a old = and_then 0 old a (λ x. writes 0 (octets x) old)
-
--- the same of an answer with a place, which stands beside it (02, Req 02)
-unfoldable pub placed_into : Answer (Address × ℕ) → List ℕ → Outcome (ℕ × ℕ)
-unfolding address_into
-placed_into a old =
-    let o = address_into (record { number = a.number; fields = a.fields.0 }) old in
-    outcome (placed a.fields.1 o.answers) o.leaves
-
--- `nibharrow_read_address`
-unfoldable pub strict_into : ℕ → List ℕ → List ℕ → Outcome (ℕ × ℕ)
-unfolding placed_into
-strict_into family t old = placed_into (placed_answer family t) old
 
 -- `nibharrow_write_address`
 unfoldable pub address_written : List ℕ → List ℕ → Outcome ℕ

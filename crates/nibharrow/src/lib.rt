@@ -1,18 +1,19 @@
 // The C interface: each call of the library, with addresses as octets in network order.
+#![tactic(auto)]
+
 ghost use Rattle.std.specs.Prelude.{◌≡◌};
 ghost use Rattle.address.specs.Answers.{reading_answer};
-ghost use Rattle.strict.specs.StrictReading.{strict_reading_answer};
+ghost use Rattle.text.specs.Strict.{strict_answer};
 ghost use Rattle.loose.specs.Loose.{loose_answer};
 ghost use Rattle.classes.specs.Classes.{join_answer};
-ghost use Rattle.c_answers.specs.CAnswers.{written_answer, address_read_answer, network_read_answer, network_host_answer, block_read_answer, blocks_written_answer};
-ghost use Rattle.nibharrow.specs.Interface.{outcome, address_into, placed_into, strict_into, address_written, network_into, network_written, octets_split, block_into, block_written, range_to, range_into, gather_into, uncovered_into, respell_into, words_into};
+ghost use Rattle.c_answers.specs.CAnswers.{written_answer, network_read_answer, network_host_answer, block_read_answer, blocks_written_answer};
+ghost use Rattle.nibharrow.specs.Interface.{outcome, address_into, address_written, network_into, network_written, octets_split, block_into, block_written, range_to, range_into, gather_into, uncovered_into, respell_into, words_into};
 
 use address::{Address, Block, BlockReading, Reading, Writing};
 use blocks::{read_block, write_block};
 use c_answers::{
-    AddressRead, BlockRead, BlocksWritten, NetworkHost, NetworkRead, Written, as_address_read,
-    as_block_read, as_blocks_written, as_byte, as_network_host, as_network_read, as_written,
-    refused,
+    BlockRead, BlocksWritten, NetworkHost, NetworkRead, Written, as_block_read, as_blocks_written,
+    as_byte, as_network_host, as_network_read, as_written, refused,
 };
 use classes::{Splitting, join, split};
 use gather::{gather, uncovered};
@@ -23,7 +24,7 @@ use octets::{read_octets, write_octets};
 use ranges::range_blocks;
 use records::BlocksWriting;
 use sheet::respell;
-use strict::{StrictReading, read_address};
+use text::read_address;
 use words::write_words;
 
 // Puts the address that a reader answered at the start of `out`.
@@ -36,21 +37,11 @@ fn put_reading(reading: Reading, out: &mut [u8]) -> Written
     }
 }
 
-// The same of the strict reader, with the place of a fault.
-fn put_strict(reading: StrictReading, out: &mut [u8]) -> AddressRead
-    ensures { outcome (address_read_answer result) out.new ≡ placed_into (strict_reading_answer reading) out.old }
-{
-    match reading {
-        StrictReading::Read(a) => as_address_read(0, write_octets(a, out)),
-        StrictReading::Refused(e, place) => as_address_read(place, Writing::Refused(e)),
-    }
-}
-
 #[unsafe(no_mangle)]
-pub extern "C" fn nibharrow_read_address(text: &[u8], family: u32, out: &mut [u8]) -> AddressRead
-    ensures { outcome (address_read_answer result) out.new ≡ strict_into family text.now out.old }
+pub extern "C" fn nibharrow_read_address(text: &[u8], family: u32, out: &mut [u8]) -> Written
+    ensures { outcome (written_answer result) out.new ≡ address_into (strict_answer family text.now) out.old }
 {
-    put_strict(read_address(text, as_byte(family)), out)
+    put_reading(read_address(text, as_byte(family)), out)
 }
 
 #[unsafe(no_mangle)]

@@ -1,4 +1,6 @@
 // Normal text of an address, written.
+#![tactic(auto)]
+
 ghost use Rattle.std.specs.Prelude.{◌≡◌};
 ghost use Rattle.address.specs.Answers.{writing_answer, write_answer, write_leaves};
 ghost use Rattle.output.specs.Placing.{Puts};

@@ -1,4 +1,6 @@
 // What is told of a refused line.
+#![tactic(auto)]
+
 ghost use Rattle.output.specs.Placing.{Puts};
 ghost use Rattle.words.specs.Words.{words_text};
 ghost use Rattle.notes.specs.Notes.{note_text};

@@ -1,4 +1,6 @@
 // An address as octets: 4 or 16 bytes in network order.
+#![tactic(auto)]
+
 ghost use Rattle.std.specs.Prelude.{◌≡◌, reverse, ◌+◌, ◌*◌, ◌≤◌, length, take, drop};
 ghost use Rattle.notation.specs.BigEndian.{digits_of, number_of};
 ghost use Rattle.address.specs.Answers.{reading_answer, writing_answer, write_answer, write_leaves};

@@ -1,4 +1,6 @@
 // Text put together in a lent array.
+#![tactic(auto)]
+
 ghost use Rattle.std.specs.Prelude.{◌≡◌, cond, [], ◌∷◌, ◌<◌};
 ghost use Rattle.digits.specs.Numerals.{numeral, decimal, hex, digit_byte};
 ghost use Rattle.output.specs.Placing.{Puts};

@@ -1,1 +1,2 @@
 // Where a strict text goes wrong, in specs/ and proofs/. It has no code.
+#![tactic(auto)]

@@ -1,4 +1,6 @@
 // What the programs do with the answers of the system: what a read has brought, a text written, what is told of a failure, and their arguments.
+#![tactic(auto)]
+
 ghost use Rattle.std.specs.Prelude.{◌≡◌, ◌+◌, length};
 ghost use Rattle.output.specs.Placing.{Puts};
 ghost use Rattle.program_io.specs.Calls.{brought_of, is_stuck, trouble_text, is_dash, single_digit};
@@ -6,7 +8,7 @@ ghost use Rattle.program_io.specs.Calls.{brought_of, is_stuck, trouble_text, is_
 use output::put_bytes;
 
 // What a read has brought: so many bytes, of which there are none at the end of the input; or nothing, since it was interrupted, or failed.
-#[derive(Drop)]
+#[derive(Clone, Copy)]
 pub enum Got {
     Bytes(usize),
     Again,
@@ -14,14 +16,14 @@ pub enum Got {
 }
 
 // What is written of a text: how many bytes the calls have taken, and how many are left.
-#[derive(Drop)]
+#[derive(Clone, Copy)]
 pub struct Sent {
     pub moved: usize,
     pub left: usize,
 }
 
 // The digit that a text is, if it is one.
-#[derive(Drop)]
+#[derive(Clone, Copy)]
 pub enum Digit {
     Is(u8),
     NoDigit,

@@ -1,4 +1,6 @@
 // The input of the range program, answered line after line, wherever it is cut into pieces and however long the buffers are.
+#![tactic(auto)]
+
 ghost use Rattle.std.specs.Prelude.{◌≡◌, ◌||◌, not, [], ◌++◌, ◌+◌, ◌<◌, eqb, ltb, length};
 ghost use Rattle.output.specs.Placing.{Puts};
 ghost use Rattle.range_text.specs.RangeText.{PutsAnswer, answer_line};
@@ -12,14 +14,14 @@ use range_text::{Answered, put_answer};
 
 // A line that is not finished: its first bytes, at most 130. More are not kept, since a line of more than 129 bytes is refused
 // whatever it holds. The bytes behind the first `len` are free, and a `len` above 130 stands for 130: no answer to a line depends on either.
-#[derive(Drop)]
+#[derive(Clone, Copy)]
 pub struct Pending {
     pub len: usize,
     pub bytes: [u8; 130],
 }
 
 // Where the reading of an input stands: the line that is begun, and its number, from 1 on.
-#[derive(Drop)]
+#[derive(Clone, Copy)]
 pub struct Reader {
     pub pending: Pending,
     pub line: u64,
@@ -27,7 +29,7 @@ pub struct Reader {
 
 // What a call has done with a piece: where the reading now stands, how many bytes of the piece are taken, the index behind the answers
 // and behind the notes, and whether a line was refused.
-#[derive(Drop)]
+#[derive(Clone, Copy)]
 pub struct Fed {
     pub reader: Reader,
     pub taken: usize,

@@ -3,6 +3,8 @@
 // range_main [STATUS [EXPLAIN [FILE ..]]]: the files in turn, or standard input; a FILE that is `-` is standard input. Where EXPLAIN is `-e` each
 // refused line is told on standard error. Where STATUS is a digit the program ends by writing its status, a digit, to that descriptor: the
 // language gives it no other way to tell it.
+#![tactic(auto)]
+
 ghost use Rattle.std.specs.Prelude.{◌≡◌, false, cond, ◌||◌, ◌+◌, ◌≤◌, ◌<◌, max, length};
 ghost use Rattle.program_io.specs.Calls.{Filled};
 ghost use Rattle.range_main.specs.Runs.{Within, OrUnwritten, AnswersPiece, AnswersEnd, AfterRead, Turns, end_of, is_more, Finished, status_of, stops_at};
@@ -12,7 +14,7 @@ use program_io::{Digit, Got, brought, is_dash, put_trouble, single_digit, write_
 use range_lines::{Fed, Reader, feed, finish, is_begun, start};
 
 // How far an input is: there is more, or it has ended, or it could not be read, or the answers could not be written.
-#[derive(Drop)]
+#[derive(Clone, Copy)]
 pub enum End {
     More,
     Ended,
@@ -22,7 +24,7 @@ pub enum End {
 
 // An input that is being read: where the reading stands, the bytes of the last piece that are not taken yet, whether a line was refused, and
 // how far it is.
-#[derive(Drop)]
+#[derive(Clone, Copy)]
 pub struct Run {
     pub reader: Reader,
     pub from: usize,
@@ -32,7 +34,7 @@ pub struct Run {
 }
 
 // An input that is done with, and after how many turns.
-#[derive(Drop)]
+#[derive(Clone, Copy)]
 pub struct Outcome {
     pub end: End,
     pub refused: bool,
@@ -40,21 +42,21 @@ pub struct Outcome {
 }
 
 // A status, and whether the program is to stop.
-#[derive(Drop)]
+#[derive(Clone, Copy)]
 struct Verdict {
     status: u8,
     stop: bool,
 }
 
 // What has come of some files: the worst of their statuses, and whether the program is to stop.
-#[derive(Drop)]
+#[derive(Clone, Copy)]
 struct Tally {
     status: u8,
     stop: bool,
 }
 
 // What has come of the files, and the argument that is next.
-#[derive(Drop)]
+#[derive(Clone, Copy)]
 struct Files {
     tally: Tally,
     next: usize,

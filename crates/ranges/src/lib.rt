@@ -1,4 +1,6 @@
 // A range of addresses into the fewest blocks, as records in a lent buffer.
+#![tactic(auto)]
+
 ghost use Rattle.std.specs.Prelude.{◌≡◌};
 ghost use Rattle.address.specs.Addresses.{family};
 ghost use Rattle.output.specs.Placing.{PutsAll};

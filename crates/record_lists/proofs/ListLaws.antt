@@ -91,8 +91,8 @@ pub list_small : (size n : ℕ) → IsSize size → n ≤ most_records → size 
 list_small size n s h = elim s [ inl e ↦ rw e (omega arith) | inr e ↦ rw e (omega arith) ]
 
 -- a slice from an index on is the record there
-pub part_front_lem : (size at : ℕ) (bytes : List ℕ) → take (at + size - at) (drop at bytes) ≡ take size (drop at bytes)
-part_front_lem size at bytes = let e : at + size - at ≡ size = omega arith in ap (λ (k : ℕ). take k (drop at bytes)) e
+pub part_front : (size at : ℕ) (bytes : List ℕ) → take (at + size - at) (drop at bytes) ≡ take size (drop at bytes)
+part_front size at bytes = let e : at + size - at ≡ size = omega arith in ap (λ (k : ℕ). take k (drop at bytes)) e
 
 -- i of the n records are judged: those that are left decide, and whether all rise
 pub record Judging (size n : ℕ) (bytes : List ℕ) (last : ℕ) (rises : Bool) (i : ℕ) : Type 0 where

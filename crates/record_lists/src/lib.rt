@@ -1,4 +1,6 @@
 // A list of records of one family, read and judged: the one beginning of every call on such a list.
+#![tactic(auto)]
+
 ghost use Rattle.std.specs.Prelude.{◌≡◌, ◌&&◌, ◌*◌, ◌≤◌, leb, length};
 ghost use Rattle.wide.specs.Value.{value};
 ghost use Rattle.records.specs.Records.{record_size, read_record};
@@ -13,7 +15,7 @@ use wide::Wide;
 const MOST: usize = 512;
 
 // What a reader of a list answers: how many records there are, and whether no address is below the one before it.
-#[derive(Drop)]
+#[derive(Clone, Copy)]
 pub enum ListReading {
     Read(usize, bool),
     Refused(Refusal),
@@ -36,7 +38,7 @@ fn is_family(family: u8) -> bool
 }
 
 // One record: its address as a number, or why it is none.
-#[derive(Drop)]
+#[derive(Clone, Copy)]
 enum Judged {
     Good(Wide),
     Bad(Refusal),

@@ -1,4 +1,6 @@
 // Blocks as records of bytes: the address in network order, then the length.
+#![tactic(auto)]
+
 ghost use Rattle.std.specs.Prelude.{◌≡◌, [], ◌∷◌};
 ghost use Rattle.address.specs.Addresses.{width};
 ghost use Rattle.address.specs.Answers.{block_answer, writing_answer, write_answer, write_leaves};
@@ -9,7 +11,7 @@ use address::{Address, Block, BlockReading, Check, Reading, Refusal, Writing};
 use octets::{put_eight, put_four, read_octets};
 
 // What a writer of blocks answers: the number of blocks and of bytes.
-#[derive(Drop)]
+#[derive(Clone, Copy)]
 pub enum BlocksWriting {
     Wrote(usize, usize),
     Refused(Refusal),

@@ -1,5 +1,7 @@
 // Ranges of addresses into the fewest blocks, as records in a lent buffer. A range of IPv6 addresses that is not all of them is three runs
 // at most, each of which differs in one half only, so that the same loops, among numbers of 64 bits, serve both families.
+#![tactic(auto)]
+
 ghost use Rattle.std.specs.Prelude.{◌≡◌, ℕ, ◌+◌, ◌-◌, ◌*◌, ◌^◌, ◌<◌, ◌≤◌, not, length, ◌==◌, nat_le, nat_lt};
 ghost use Rattle.wide.specs.Value.{value};
 ghost use Rattle.cover.specs.Blocks.{range_blocks};
@@ -59,7 +61,7 @@ fn put_one(longest: u32, hi: u64, start: u64, bits: u32, out: &mut [u8], at: usi
 }
 
 // How many numbers the rising and the falling part of a run have.
-#[derive(Drop)]
+#[derive(Clone, Copy)]
 struct Split {
     rise: u64,
     fall: u64,
@@ -163,7 +165,7 @@ fn put_run(longest: u32, hi: u64, first: u64, last: u64, out: &mut [u8], at: usi
 }
 
 // A run of IPv6 addresses, and the address that it ends at.
-#[derive(Drop)]
+#[derive(Clone, Copy)]
 struct Run {
     longest: u32,
     hi: u64,

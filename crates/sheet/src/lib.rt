@@ -1,5 +1,7 @@
 // The acidity sheet respelled, and its lines sorted by address. Each line is read once, into a row of a table; whole rows are put in order and
 // written, so that no reading leaves its address.
+#![tactic(auto)]
+
 ghost use Rattle.std.specs.Prelude.{◌≡◌, [], ◌∷◌, map, ◌≤◌, ◌<◌, length, take, get_or};
 ghost use Rattle.address.specs.Answers.{writing_answer, write_answer, write_leaves};
 ghost use Rattle.output.specs.Placing.{Puts};
@@ -16,7 +18,7 @@ use sort::sort_keys;
 use store::store;
 
 // How many rows a sheet was read into.
-#[derive(Drop)]
+#[derive(Clone, Copy)]
 enum Rows {
     Count(usize),
     NoRows,

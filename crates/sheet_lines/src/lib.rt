@@ -1,4 +1,6 @@
 // A line of the acidity sheet: an address, a volume and a pH, read and written.
+#![tactic(auto)]
+
 ghost use Rattle.std.specs.Prelude.{◌≡◌, ◌<◌, length};
 ghost use Rattle.std.proofs.Math.Option.{some};
 ghost use Rattle.digits.specs.Numerals.{as_leading, leading_zero, numeral};
@@ -10,10 +12,10 @@ use address::{Address, Reading};
 use digits::read::{Leading, find, leading_number};
 use normal::put_address;
 use output::{put, put_if};
-use text::read_strict;
+use text::read_address;
 
 // What a line holds: an address, a volume from 1 to 999,999, and a pH in hundredths from 0 to 1400. The fields of a value are not checked.
-#[derive(Drop)]
+#[derive(Clone, Copy)]
 pub struct Entry {
     pub address: Address,
     pub volume: u32,
@@ -21,7 +23,7 @@ pub struct Entry {
 }
 
 // What a line is read as.
-#[derive(Drop)]
+#[derive(Clone, Copy)]
 pub enum LineReading {
     Line(Entry),
     NoLine,
@@ -79,7 +81,7 @@ fn read_numbers(address: Address, volume: &[u8], ph: &[u8]) -> LineReading
 fn read_fields(address: &[u8], volume: &[u8], ph: &[u8]) -> LineReading
     ensures { result ≡ as_line (entry_of (address_of address.now) (volume_of volume.now) (ph_of ph.now)) }
 {
-    let Reading::Read(a) = read_strict(address, 0) else {
+    let Reading::Read(a) = read_address(address, 0) else {
         return LineReading::NoLine;
     };
     read_numbers(a, volume, ph)

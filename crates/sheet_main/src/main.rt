@@ -3,6 +3,8 @@
 // sheet_main [STATUS [OPTIONS [FILE]]]: the file, or standard input where there is none or it is `-`. OPTIONS is `-` and then any of the letters s,
 // the lines are sorted, and e, a refused sheet is told with its line and the reason. Where STATUS is a digit the program ends by writing its status, a
 // digit, to that descriptor: the language gives it no other way to tell it.
+#![tactic(auto)]
+
 ghost use Rattle.std.specs.Prelude.{◌≡◌, cond, ◌+◌, ◌-◌, ◌≤◌, ltb, length};
 ghost use Rattle.notation.specs.Pieces.{contains};
 ghost use Rattle.program_io.specs.Calls.{Filled};
@@ -16,7 +18,7 @@ use sheet::respell;
 use sheet_notes::put_refused;
 
 // How far an input is: there may be more, or it has ended, or it is longer than a sheet may be, or it could not be read.
-#[derive(Drop)]
+#[derive(Clone, Copy)]
 pub enum End {
     More,
     Ended,
@@ -25,21 +27,21 @@ pub enum End {
 }
 
 // An input that is being read: how many bytes are read, and how far it is.
-#[derive(Drop)]
+#[derive(Clone, Copy)]
 pub struct Run {
     pub len: usize,
     pub end: End,
 }
 
 // An input that is done with, and after how many turns.
-#[derive(Drop)]
+#[derive(Clone, Copy)]
 pub struct Outcome {
     pub run: Run,
     pub turns: u64,
 }
 
 // What is to be written for a sheet: so many bytes of the buffers for standard output and for standard error, and whether the sheet is refused.
-#[derive(Drop)]
+#[derive(Clone, Copy)]
 pub struct Reply {
     pub written: usize,
     pub noted: usize,
@@ -47,7 +49,7 @@ pub struct Reply {
 }
 
 // A sheet that is answered: whether it is refused, how many bytes of the answer and the note were taken, and how many are left.
-#[derive(Drop)]
+#[derive(Clone, Copy)]
 pub struct Answered {
     pub refused: bool,
     pub moved: usize,
@@ -55,7 +57,7 @@ pub struct Answered {
 }
 
 // An input that is answered: how it was read, after how many turns, what was answered, and the status.
-#[derive(Drop)]
+#[derive(Clone, Copy)]
 pub struct InputAnswer {
     pub run: Run,
     pub turns: u64,
@@ -64,7 +66,7 @@ pub struct InputAnswer {
 }
 
 // What is asked for.
-#[derive(Drop)]
+#[derive(Clone, Copy)]
 struct Options {
     sorted: bool,
     explain: bool,

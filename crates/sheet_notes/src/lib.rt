@@ -1,4 +1,6 @@
 // What is told of a refused sheet.
+#![tactic(auto)]
+
 ghost use Rattle.std.specs.Prelude.{◌≡◌, cond, ◌≤◌, eqb};
 ghost use Rattle.output.specs.Placing.{Puts};
 ghost use Rattle.sheet_notes.specs.SheetNotes.{excess_line, malformed_line, fault_line, refused_note};

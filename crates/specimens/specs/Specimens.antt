@@ -7,7 +7,7 @@ use Rattle.address.specs.declared.Address.{Address}
 use Rattle.address.specs.declared.Address.TheVariants.{V4, V6}
 use Rattle.address.specs.declared.Block.{Block}
 use Rattle.address.specs.Answers.{Answer, gives, no_address, no_block}
-use Rattle.place.specs.Place.{placed_answer}
+use Rattle.text.specs.Strict.{strict_answer}
 use Rattle.normal.specs.Normal.{normal_text}
 use Rattle.loose.specs.Loose.{loose_answer}
 use Rattle.network.specs.NetworkText.{network_text}
@@ -24,11 +24,8 @@ pub data Expected (A : Type 0) : Type 0 where
 
 -- A row: what is asked, the input, and the outcome.
 pub data Specimen : Type 0 where
-  -- a strict text of either family that is read: the address, and its normal text
-  strict : String → Address → String → Specimen
-  -- one that is refused: the number, and the place of the fault (02, Req 02)
-  strict_refused : String → ℕ → ℕ → Specimen
-  -- a text read loosely: the address, and its normal text
+  -- a text read as an address, strictly in either family or loosely: the address, and its normal text
+  strict : String → Expected (Address × String) → Specimen
   loose : String → Expected (Address × String) → Specimen
   -- a text read in the network form into a lent buffer: the size and the number of bytes, and the buffer afterwards
   network : String → List ℕ → Expected (ℕ × ℕ) → List ℕ → Specimen
@@ -50,15 +47,14 @@ entire zeros (answered fields) = gives fields
 abbrev with_bytes : {A : Type 0} → Answer A → List ℕ → Answer A × List ℕ
 with_bytes r bytes = (r, bytes)
 
--- a reader of loose text gives the outcome
+-- a reader of addresses gives the outcome
 abbrev ReadAs : Answer Address → Expected (Address × String) → Type 0
 ReadAs r (refused n) = r ≡ entire no_address (refused n)
 ReadAs r (answered o) = with_bytes r (normal_text r.fields) ≡ with_bytes (gives o.0) (ascii o.1)
 
 -- The definitions that the contracts cite give the outcome of the row, all of it.
 abbrev pub Correct : Specimen → Type 0
-Correct (strict t a u) = with_bytes (placed_answer 0 (ascii t)) (normal_text a) ≡ with_bytes (gives (a, 0)) (ascii u)
-Correct (strict_refused t n place) = placed_answer 0 (ascii t) ≡ record { number = n; fields = (no_address, place) }
+Correct (strict t o) = ReadAs (strict_answer 0 (ascii t)) o
 Correct (loose t o) = ReadAs (loose_answer (ascii t)) o
 Correct (network t old o new) = with_bytes (network_answer (ascii t) old) (network_leaves (ascii t) old) ≡ with_bytes (entire (0, 0) o) new
 Correct (writes_back t old u) = network_text (number_of 256 (network_leaves (ascii t) old)) (network_answer (ascii t) old).fields.0 ≡ ascii u
@@ -80,15 +76,15 @@ lent n = replicate n 0xee
 -- The rows in the order of 01. One with two inputs is two rows here, and so is one with a text written back.
 abbrev pub specimens : List Specimen
 specimens =
-    strict_refused "010.0.0.12" 2 3
+    strict "010.0.0.12" (refused 2)
     ∷ loose "010.0.0.12" (answered (V4 0x0800000c, "8.0.0.12"))
     ∷ loose "0x7f.1" (answered (V4 0x7f000001, "127.0.0.1"))
     ∷ loose "1.2.65535" (answered (V4 0x0102ffff, "1.2.255.255"))
     ∷ loose "1.2.65536" (refused 2)
-    ∷ strict "1:2:3:4:5:6:7::" (V6 0x0001000200030004 0x0005000600070000) "1:2:3:4:5:6:7:0"
-    ∷ strict_refused "1:2:3:4:5:6:7:8::" 2 15
-    ∷ strict "0:0:0:0:0:FFFF:204.152.189.116" (V6 0 0x0000ffffcc98bd74) "::ffff:cc98:bd74"
-    ∷ strict "2001:db8:0:0:1:0:0:1" (V6 0x20010db800000000 0x0001000000000001) "2001:db8::1:0:0:1"
+    ∷ strict "1:2:3:4:5:6:7::" (answered (V6 0x0001000200030004 0x0005000600070000, "1:2:3:4:5:6:7:0"))
+    ∷ strict "1:2:3:4:5:6:7:8::" (refused 2)
+    ∷ strict "0:0:0:0:0:FFFF:204.152.189.116" (answered (V6 0 0x0000ffffcc98bd74, "::ffff:cc98:bd74"))
+    ∷ strict "2001:db8:0:0:1:0:0:1" (answered (V6 0x20010db800000000 0x0001000000000001, "2001:db8::1:0:0:1"))
     ∷ network "193.168" (lent 4) (answered (24, 3)) (0xc1 ∷ 0xa8 ∷ 0x00 ∷ 0xee ∷ [])
     ∷ network "193.168.1.128/24" (lent 4) (answered (24, 4)) (0xc1 ∷ 0xa8 ∷ 0x01 ∷ 0x80 ∷ [])
     ∷ writes_back "193.168.1.128/24" (lent 4) "193.168.1/24"

@@ -1,5 +1,7 @@
 // Runs every specimen of 01 ("Specimens on both sides") through the library, and writes a line for each. What is written is compared with
 // the file `stdout`, so that the contracts of these private functions need not speak of it.
+#![tactic(auto)]
+
 ghost use Rattle.std.specs.Prelude.{◌<◌};
 
 use address::{Address, BlockReading, Reading, Refusal, Writing};
@@ -11,7 +13,7 @@ use normal::write_address;
 use octets::read_octets;
 use ranges::range_blocks;
 use records::BlocksWriting;
-use strict::{StrictReading, read_address};
+use text::read_address;
 
 // ---- parts of a line
 
@@ -124,17 +126,9 @@ fn end_range(first: Address, last: Address, wanted: bool) {
 
 // ---- a line for each kind of question
 
-// A refusal by 2 with its place.
-fn strictly(text: &[u8]) {
+fn strict(text: &[u8]) {
     say_asked(b"strict ", text);
-    match read_address(text, 0) {
-        StrictReading::Read(address) => end_reading(Reading::Read(address)),
-        StrictReading::Refused(e, place) => {
-            say_number(b"refused ", e.number() as usize);
-            say_number(b" at ", place as usize);
-            say(b"\n");
-        }
-    }
+    end_reading(read_address(text, 0));
 }
 
 fn loosely(text: &[u8]) {
@@ -165,10 +159,10 @@ fn range(first: &[u8], last: &[u8], wanted: bool) {
     say(b"range ");
     say(first);
     say_asked(b" to ", last);
-    let StrictReading::Read(a) = read_address(first, 4) else {
+    let Reading::Read(a) = read_address(first, 4) else {
         return;
     };
-    let StrictReading::Read(b) = read_address(last, 4) else {
+    let Reading::Read(b) = read_address(last, 4) else {
         return;
     };
     end_range(a, b, wanted);
@@ -177,7 +171,7 @@ fn range(first: &[u8], last: &[u8], wanted: bool) {
 // ---- the rows, in the order of 01
 
 fn ipv4_rows() {
-    strictly(b"010.0.0.12");
+    strict(b"010.0.0.12");
     loosely(b"010.0.0.12");
     loosely(b"226.000.000.037");
     loosely(b"0x7f.1");
@@ -191,10 +185,10 @@ fn limit_rows() {
 }
 
 fn ipv6_rows() {
-    strictly(b"1:2:3:4:5:6:7::");
-    strictly(b"1:2:3:4:5:6:7:8::");
-    strictly(b"0:0:0:0:0:FFFF:204.152.189.116");
-    strictly(b"2001:db8:0:0:1:0:0:1");
+    strict(b"1:2:3:4:5:6:7::");
+    strict(b"1:2:3:4:5:6:7:8::");
+    strict(b"0:0:0:0:0:FFFF:204.152.189.116");
+    strict(b"2001:db8:0:0:1:0:0:1");
 }
 
 fn network_rows() {

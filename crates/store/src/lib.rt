@@ -1,4 +1,6 @@
 // A finished text stored in a lent buffer, all of it or nothing.
+#![tactic(auto)]
+
 ghost use Rattle.std.specs.Prelude.{◌≡◌};
 ghost use Rattle.address.specs.Answers.{writing_answer, write_answer, write_leaves};
 

@@ -1,5 +1,7 @@
 // Strict text of IPv4 and IPv6 addresses, read: the address, or why not and where. The place of a fault is found after the refusal, so that
 // reading good text does not pay for it.
+#![tactic(auto)]
+
 ghost use Rattle.std.specs.Prelude.{◌≡◌, cond, min, max, drop};
 ghost use Rattle.digits.specs.Numerals.{part_of};
 ghost use Rattle.address.specs.Answers.{refusal_number};
@@ -10,10 +12,10 @@ ghost use Rattle.place.specs.Place.{byte_then, begins, present, part_front, part
 use address::{Address, Reading, Refusal};
 use digits::parts::whole_part;
 use digits::read::{Leading, leading_number};
-use text::read_strict;
+
 
 // What the strict reader answers: the address, or why not and the place of the fault, which is 0 but for `Malformed`.
-#[derive(Drop)]
+#[derive(Clone, Copy)]
 pub enum StrictReading {
     Read(Address),
     Refused(Refusal, u8),
@@ -193,7 +195,7 @@ fn refused_place(why: Refusal, text: &[u8], family: u8) -> u8
 pub fn read_address(text: &[u8], family: u8) -> StrictReading
     ensures { strict_reading_answer result ≡ placed_answer family text.now }
 {
-    match read_strict(text, family) {
+    match text::read_address(text, family) {
         Reading::Read(address) => StrictReading::Read(address),
         Reading::Refused(why) => StrictReading::Refused(why, refused_place(why, text, family)),
     }

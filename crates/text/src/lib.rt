@@ -1,4 +1,6 @@
 // Strict text of IPv4 and IPv6 addresses, read.
+#![tactic(auto)]
+
 ghost use Rattle.std.specs.Prelude.{◌≡◌};
 ghost use Rattle.std.proofs.Math.Option.{map};
 ghost use Rattle.notation.specs.Options.{or_else};
@@ -56,9 +58,8 @@ fn is_family(family: u8) -> bool
     }
 }
 
-// The address of a strict text of a family: 4, 6, or 0 for either. It tells no place of a fault, as an address inside a longer text has none;
-// the strict reader, which does, is `read_address` of `strict`.
-pub fn read_strict(text: &[u8], family: u8) -> Reading
+// The address of a strict text of a family: 4, 6, or 0 for either.
+pub fn read_address(text: &[u8], family: u8) -> Reading
     ensures { reading_answer result ≡ strict_answer family text.now }
 {
     if !is_family(family) {

@@ -1,5 +1,7 @@
 // Numbers of 128 bits as two halves of 64, by value. An IPv4 address is one whose upper half is 0.
 // No operation wraps: a sum stops at the largest number and a difference at 0.
+#![tactic(auto)]
+
 ghost use Rattle.std.specs.Prelude.{◌≡◌, ◌+◌, ◌-◌, ◌*◌, ◌%◌, ◌^◌, min, ◌==◌, nat_lt};
 ghost use Rattle.std.specs.Int.Count.{count_trailing_zeros};
 ghost use Rattle.wide.specs.Value.{value};
@@ -7,7 +9,7 @@ ghost use Rattle.wide.specs.Value.{value};
 // The largest half.
 const MOST: u64 = 0xffff_ffff_ffff_ffff;
 
-#[derive(Drop)]
+#[derive(Clone, Copy)]
 pub struct Wide {
     pub hi: u64,
     pub lo: u64,

@@ -1,4 +1,6 @@
 // The refusals in words.
+#![tactic(auto)]
+
 ghost use Rattle.std.specs.Prelude.{◌≡◌};
 ghost use Rattle.address.specs.Answers.{writing_answer, write_answer, write_leaves};
 ghost use Rattle.words.specs.Words.{words_text, words_refusal};

@@ -1,8 +1,10 @@
 // The run of zero groups that normal text shortens.
+#![tactic(auto)]
+
 ghost use Rattle.zero_runs.specs.Runs.{LeftmostLongest};
 
 // A run of groups.
-#[derive(Drop)]
+#[derive(Clone, Copy)]
 pub struct Run {
     pub start: usize,
     pub length: usize,

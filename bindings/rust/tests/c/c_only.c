@@ -1,7 +1,6 @@
 /*
  * Calls that C can make and the types of the Rust crate cannot: NULL with length 0 for every pointer, addresses of other
- * sizes or of the wrong family, and numbers that no byte holds; and the places of strict text, which stand in a field of
- * their own. Prints the fields of each answer.
+ * sizes or of the wrong family, and numbers that no byte holds. Prints the fields of each answer.
  */
 #include <inttypes.h>
 #include <stdio.h>
@@ -32,11 +31,10 @@
 int main(void)
 {
     static const uint8_t bytes[16] = {10, 0, 0, 12};
-    static uint8_t room[NIBHARROW_ADDRESS_ROOM];
     static const uint8_t all[17]; /* the block of length 0, as a record of either family */
 
-    ANSWER(address_read, read_address(NOTHING, 0, NOTHING), place, bytes);
-    ANSWER(address_read, read_address(TEXT("10.0.0.12"), 0, NOTHING), place, bytes);
+    WRITTEN(read_address(NOTHING, 0, NOTHING));
+    WRITTEN(read_address(TEXT("10.0.0.12"), 0, NOTHING));
     WRITTEN(write_address(NOTHING, NOTHING));
     WRITTEN(write_address(FOUR, NOTHING));
     WRITTEN(read_loose(NOTHING, NOTHING));
@@ -71,8 +69,8 @@ int main(void)
     WRITTEN(refusal_text(0, NOTHING));
     WRITTEN(refusal_text(1, NOTHING));
 
-    ANSWER(address_read, read_address(TEXT("10.0.0.12"), 5, NOTHING), place, bytes);
-    ANSWER(address_read, read_address(TEXT("10.0.0.12"), 256 + 4, NOTHING), place, bytes);
+    WRITTEN(read_address(TEXT("10.0.0.12"), 5, NOTHING));
+    WRITTEN(read_address(TEXT("10.0.0.12"), 256 + 4, NOTHING));
     WRITTEN(write_address(FIVE, NOTHING));
     WRITTEN(write_network(FIVE, 24, NOTHING));
     WRITTEN(write_network(SIXTEEN, 24, NOTHING));
@@ -91,15 +89,5 @@ int main(void)
     ANSWER(blocks_written, uncovered(ALL_4, 256 + 4, NOTHING), blocks, bytes);
     ANSWER(blocks_written, uncovered(FOUR, 256 + 6, NOTHING), blocks, bytes);
     WRITTEN(refusal_text(256 + 1, NOTHING));
-
-    ANSWER(address_read, read_address(TEXT("1.2.3.256"), 4, NOTHING), place, bytes);
-    ANSWER(address_read, read_address(TEXT("1.2.3.256"), 6, NOTHING), place, bytes);
-    ANSWER(address_read, read_address(TEXT("1.2.3.256"), 0, NOTHING), place, bytes);
-    ANSWER(address_read, read_address(TEXT("1.2.3.256"), 5, NOTHING), place, bytes);
-    ANSWER(address_read, read_address(TEXT("1.2.3.256"), 256 + 4, NOTHING), place, bytes);
-    ANSWER(address_read, read_address(TEXT("1:2:3:4:5:6:7:8::"), 0, NOTHING), place, bytes);
-    ANSWER(address_read, read_address(TEXT("1.2.3"), 0, NOTHING), place, bytes);
-    ANSWER(address_read, read_address(TEXT("1.2.3.4"), 0, room, sizeof room), place, bytes);
-    ANSWER(address_read, read_address(TEXT("::1.2.3.4"), 0, room, sizeof room), place, bytes);
     return 0;
 }

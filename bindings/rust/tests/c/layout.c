@@ -14,11 +14,6 @@ int main(void)
     FIELD(nibharrow_written, refusal);
     FIELD(nibharrow_written, bytes);
 
-    TYPE(nibharrow_address_read);
-    FIELD(nibharrow_address_read, refusal);
-    FIELD(nibharrow_address_read, place);
-    FIELD(nibharrow_address_read, bytes);
-
     TYPE(nibharrow_network_read);
     FIELD(nibharrow_network_read, refusal);
     FIELD(nibharrow_network_read, size);

@@ -16,11 +16,11 @@ find-requires c κs = search rules
 returns-2 : tie.Need-returns-2
 returns-2 c = let f = c.before in no_slash _ _ f.find.ensures f.before.if1.false c.if2.true
 
-slice-aggregate-read-strict : tie.Need-slice-aggregate-read-strict
-slice-aggregate-read-strict c = sym (length-take-le _ _ (search rules))
+slice-aggregate-read-address : tie.Need-slice-aggregate-read-address
+slice-aggregate-read-address c = sym (length-take-le _ _ (search rules))
 
-read-strict-requires : tie.Need-read-strict-requires
-read-strict-requires c κs = search rules
+read-address-requires : tie.Need-read-address-requires
+read-address-requires c κs = search rules
 
 enum-known-address : tie.Need-enum-known-address
 enum-known-address c = search rules
@@ -33,7 +33,7 @@ returns-3 c =
     let r = c.before.before in
     let e = r.before.before in
     let f = e.before in
-    no_address_lem _ _ f.find.ensures f.before.if1.false e.if2.false c.enum_told.given.0.0 (ap reading_answer (sym c.enum_told.given.1) ∙ r.read_strict.ensures)
+    no_address_lem _ _ f.find.ensures f.before.if1.false e.if2.false c.enum_told.given.0.0 (ap reading_answer (sym c.enum_told.given.1) ∙ r.read_address.ensures)
 
 add-whole-part : tie.Need-overflow-add-whole-part
 add-whole-part c = search rules
@@ -71,7 +71,7 @@ returns-5 c =
     let r = a.before.before in
     let e = r.before.before in
     let f = e.before in
-    length_large _ _ f.find.ensures f.before.if1.false e.if2.false _ (ap reading_answer (sym a.address.given.1) ∙ r.read_strict.ensures) _ _ _ (sym n.length.given.1 ∙ p.whole_part.ensures) c.if3.true
+    length_large _ _ f.find.ensures f.before.if1.false e.if2.false _ (ap reading_answer (sym a.address.given.1) ∙ r.read_address.ensures) _ _ _ (sym n.length.given.1 ∙ p.whole_part.ensures) c.if3.true
 
 cast-t21 : tie.Need-overflow-cast-t21
 cast-t21 c = search rules
@@ -87,7 +87,7 @@ returns-6 c =
     let r = a.before.before in
     let e = r.before.before in
     let f = e.before in
-    block_checked _ _ f.find.ensures f.before.if1.false e.if2.false _ (ap reading_answer (sym a.address.given.1) ∙ r.read_strict.ensures) _ _ _ (sym n.length.given.1 ∙ p.whole_part.ensures) c.checked.ensures
+    block_checked _ _ f.find.ensures f.before.if1.false e.if2.false _ (ap reading_answer (sym a.address.given.1) ∙ r.read_address.ensures) _ _ _ (sym n.length.given.1 ∙ p.whole_part.ensures) c.checked.ensures
 
 pub read-block-spec : {M : Type 1} → statement M
 read-block-spec =
@@ -96,8 +96,8 @@ read-block-spec =
     returns
     find-requires
     returns-2
-    slice-aggregate-read-strict
-    read-strict-requires
+    slice-aggregate-read-address
+    read-address-requires
     enum-known-address
     enum_told
     returns-3

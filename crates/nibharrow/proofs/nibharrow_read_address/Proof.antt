@@ -1,5 +1,6 @@
 -- `nibharrow::nibharrow_read_address` meets its contract. Assumes nothing.
-use Rattle.nibharrow.proofs.InterfaceLaws.{strict_same, family_cut}
+use mathlib.Core.Path.{◌∙◌}
+use Rattle.nibharrow.proofs.InterfaceLaws.{into_same, family_cut}
 use borrow.Author.Rules.{rules}
 use Rattle.nibharrow.proofs.nibharrow_read_address.Statement.{statement}
 use Rattle.nibharrow.proofs.nibharrow_read_address.Tie as tie
@@ -10,8 +11,8 @@ as-byte-requires c κs = search rules
 read-address-requires : tie.Need-read-address-requires
 read-address-requires c κs = search rules
 
-put-strict-requires : tie.Need-put-strict-requires
-put-strict-requires c κs = search rules
+put-reading-requires : tie.Need-put-reading-requires
+put-reading-requires c κs = search rules
 
 same_length : tie.Need-same-length
 same_length c = search rules
@@ -20,9 +21,9 @@ returns : tie.Need-returns
 returns c =
     let p = c.before.before in
     let r = p.before.before in
-    strict_same _ _ _ _ _ _ p.put-strict.ensures r.read_address.ensures (family_cut _ _ _ r.before.as_byte.ensures)
+    into_same _ _ _ _ p.put-reading.ensures (r.read_address.ensures ∙ family_cut _ _ _ r.before.as_byte.ensures)
 
 pub nibharrow-read-address-spec : {M : Type 1} → statement M
 nibharrow-read-address-spec =
     tie.close
-    (tie.spec as-byte-requires read-address-requires put-strict-requires same_length returns)
+    (tie.spec as-byte-requires read-address-requires put-reading-requires same_length returns)

@@ -5,7 +5,7 @@ use native.Mathlib.Omega.{arith}
 use borrow.Author.Rules.{rules}
 use Rattle.wide.specs.Value.{value}
 use Rattle.record_lists.specs.Inner.{JudgedAs}
-use Rattle.record_lists.proofs.ListLaws.{Judging, judging_start, judging_next, judging_bad, judging_end, next_room, one_size, list_small, part_front_lem}
+use Rattle.record_lists.proofs.ListLaws.{Judging, judging_start, judging_next, judging_bad, judging_end, next_room, one_size, list_small, part_front}
 use Rattle.record_lists.proofs.judge_all.Statement.{statement}
 use Rattle.record_lists.proofs.judge_all.Tie as tie
 
@@ -53,7 +53,7 @@ judge-one-requires : tie.Need-judge-one-requires invariant-loop decreases-loop
 judge-one-requires c κs =
     let i = c.before in
     let s = begun i in
-    one_size s.pre.0 s.pre.1 i.before.loop.invariant (inside i) _ (part_front_lem s.args.size (i.before.loop.i * s.args.size) s.args.records.now)
+    one_size s.pre.0 s.pre.1 i.before.loop.invariant (inside i) _ (part_front s.args.size (i.before.loop.i * s.args.size) s.args.records.now)
 
 enum-known-e : tie.Need-enum-known-e invariant-loop decreases-loop
 enum-known-e c = search rules
@@ -64,7 +64,7 @@ returns c =
     let j = e.before.before in
     let i = j.before.before in
     let s = begun i in
-    judging_bad s.pre.0 s.pre.1 i.before.loop.invariant (inside i) _ (part_front_lem s.args.size (i.before.loop.i * s.args.size) s.args.records.now)
+    judging_bad s.pre.0 s.pre.1 i.before.loop.invariant (inside i) _ (part_front s.args.size (i.before.loop.i * s.args.size) s.args.records.now)
     e.e.given.0.0 (subst (JudgedAs _ _) e.e.given.1 j.judge-one.ensures)
 
 enum-known-next : tie.Need-enum-known-next invariant-loop decreases-loop
@@ -86,7 +86,7 @@ loop-again c =
     let i = j.before.before in
     let s = begun i in
     let good = subst (JudgedAs _ _) n.next.given.1 j.judge-one.ensures in
-    judging_next s.pre.0 s.pre.1 i.before.loop.invariant (inside i) _ (part_front_lem s.args.size (i.before.loop.i * s.args.size) s.args.records.now)
+    judging_next s.pre.0 s.pre.1 i.before.loop.invariant (inside i) _ (part_front s.args.size (i.before.loop.i * s.args.size) s.args.records.now)
     good.0 _ good.1 _ c.still-rises.ensures
 
 returns-2 : tie.Need-returns-2 invariant-loop decreases-loop

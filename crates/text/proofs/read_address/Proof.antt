@@ -1,4 +1,4 @@
--- `text::read_strict` meets its contract. Assumes nothing.
+-- `text::read_address` meets its contract. Assumes nothing.
 use mathlib.Core.Path.{◌≡◌, sym, ap, ◌∙◌}
 use mathlib.Core.Bool.{true}
 use mathlib.Core.Option.{Option}
@@ -11,8 +11,8 @@ use Rattle.address.specs.Answers.{reading_answer}
 use Rattle.text.specs.Inner.{as_reading}
 use Rattle.text.specs.Strict.{strict_of, known_family, strict_answer}
 use Rattle.text.proofs.StrictLaws.{strict_4, strict_6, strict_0, strict_unknown, strict_long, strict_read}
-use Rattle.text.proofs.read_strict.Statement.{statement}
-use Rattle.text.proofs.read_strict.Tie as tie
+use Rattle.text.proofs.read_address.Statement.{statement}
+use Rattle.text.proofs.read_address.Tie as tie
 
 is-family-requires : tie.Need-is-family-requires
 is-family-requires c κs = search rules
@@ -57,8 +57,8 @@ read-either-requires c κs = search rules
 returns-5 : tie.Need-returns-5
 returns-5 c = answered c.before.before.before _ _ c.read-either.ensures (strict_0 _ _ c.before.before.if3.false c.before.if4.false)
 
-pub read-strict-spec : {M : Type 1} → statement M
-read-strict-spec =
+pub read-address-spec : {M : Type 1} → statement M
+read-address-spec =
     tie.close
     (tie.spec
     is-family-requires
