@@ -181,9 +181,9 @@ module _ {W : ℕ} {S : ℕ → Type 0} where
   greedy_shortest [] [] t r = inl refl
   greedy_shortest [] (b ∷ bs) (next n t) r = absurd (r.covers b.address n.block.below (n.inside b.address (covers_first n.block)) n.above).1
   greedy_shortest (c ∷ cs) [] t r = inr (zero-lt-suc (L.length cs))
-  greedy_shortest (c ∷ cs) (b ∷ bs) (next n t) r =
-      let same = greedy_shortest cs (b ∷ bs) (next n t) in
-      let rest = greedy_shortest cs bs t in
+  greedy_shortest {a = a} (c ∷ cs) (b ∷ bs) (next n t) r =
+      let same = greedy_shortest {a = a} cs (b ∷ bs) (next n t) in
+      let rest = greedy_shortest {a = after W b} cs bs t in
       elim r.clear.0 [
         | inl h ↦ elim (same (rival_skip r h)) [ inl e ↦ inr (omega (arith, ap L.length e)) | inr k ↦ inr (omega arith) ]
         | inr l ↦ elim (rest (rival_next n r l)) [ inl e ↦ inl (ap₂ ◌∷◌ (rival_first n r l t e) e) | inr k ↦ inr (omega arith) ]
