@@ -1,0 +1,18 @@
+use native.Mathlib.Omega.{arith}
+use Rattle.notation.proofs.IndexLaws.{index_found, index_more, index_end}
+use Rattle.digits.proofs.read.find.Goals as goal
+
+pub returns-then-text-i : goal.returns-then-text-i
+returns-then-text-i c =
+    let a = c.args in
+    omega (arith, index_found a.separator a.text.now c.loop-i.i (omega arith) c.if-text-i.true)
+
+pub loop-i-preserved : goal.loop-i-preserved
+loop-i-preserved c =
+    let a = c.args in
+    omega (arith, index_more a.separator a.text.now c.loop-i.i (omega arith) c.if-text-i.false)
+
+pub returns : goal.returns
+returns c =
+    let a = c.args in
+    omega (arith, index_end a.separator a.text.now c.loop-i.i (omega arith))

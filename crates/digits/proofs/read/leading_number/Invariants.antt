@@ -1,0 +1,12 @@
+use Prim.Native.Nat.{◌-◌, ◌≤◌}
+use lib.ListN.{length}
+use Rattle.digits.proofs.LeadingLaws.{Scan}
+use Rattle.digits.proofs.read.leading_number.Given as goal
+
+-- `digits::read::leading_number` meets its contract. The invariant: the first i digits write the value. Assumes nothing.
+
+abbrev pub invariant-loop-i : goal.invariant-loop-i
+invariant-loop-i l = Scan l.base l.text l.value l.i × (l.value ≤ l.most)
+
+abbrev pub decreases-loop-i : goal.decreases-loop-i
+decreases-loop-i l = length l.text - l.i
