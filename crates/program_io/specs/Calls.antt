@@ -49,11 +49,16 @@ single_digit [] = NoDigit
 single_digit (x ∷ []) = cond (within 48 57 x) (Is (x - 48)) NoDigit
 single_digit (x ∷ y ∷ t) = NoDigit
 
--- a call that puts some bytes at an index of the buffer
-abbrev pub PutsSome : List ℕ → List ℕ → ℕ → ℕ → Type 0
-PutsSome old new at next = (bytes : List ℕ) × Puts old new at next bytes
-
 -- what is told of a failure, before the system's words
 unfoldable pub trouble_text : List ℕ → List ℕ
 unfolding ascii
 trouble_text what = ascii "nibharrow: " ++ what
+
+-- what is told behind that, with some words of the system
+unfoldable pub reason_text : List ℕ → List ℕ
+unfolding ascii
+reason_text words = ascii ": " ++ (words ++ ascii "\n")
+
+-- a call that puts it at an index of the buffer
+abbrev pub PutsReason : List ℕ → List ℕ → ℕ → ℕ → Type 0
+PutsReason old new at next = (words : List ℕ) × Puts old new at next (reason_text words)

@@ -5,7 +5,7 @@ ghost use Rattle.std.specs.Prelude.{◌≡◌, ◌+◌, ◌<◌, ◌≤◌, ◌^
 ghost use Rattle.std.specs.IoError.{raw_os_error};
 ghost use Rattle.std.specs.Io.{WritesAtMost};
 ghost use Rattle.output.specs.Placing.{Puts};
-ghost use Rattle.program_io.specs.Calls.{IsCall, clamp_len, brought_of, is_stuck, trouble_text, PutsSome, is_dash, single_digit};
+ghost use Rattle.program_io.specs.Calls.{IsCall, clamp_len, brought_of, is_stuck, trouble_text, PutsReason, is_dash, single_digit};
 
 use output::put_bytes;
 use std::env::{Env, FillError};
@@ -65,9 +65,9 @@ pub fn put_trouble(line: &mut [u8], what: &[u8]) -> usize
     put_bytes(line, behind, what)
 }
 
-// What is put behind that: the system's words for a failure, as std has them but for the error's number.
-pub fn put_words(line: &mut [u8], at: usize, why: Error) -> usize
-    ensures { PutsSome line.old line.new at result }
+// Puts what is told behind that: the system's words for the failure, as std has them but for the error's number.
+pub fn put_reason(line: &mut [u8], at: usize, why: Error) -> usize
+    ensures { PutsReason line.old line.new at result }
 {
     let mut room = [0u8; 256];
     let mut rest = &mut room[..];
@@ -82,7 +82,9 @@ pub fn put_words(line: &mut [u8], at: usize, why: Error) -> usize
         Some((words, _)) => words,
         None => shown,
     };
-    put_bytes(line, at, words.as_bytes())
+    let behind = put_bytes(line, at, b": ");
+    let end = put_bytes(line, behind, words.as_bytes());
+    put_bytes(line, end, b"\n")
 }
 
 // No failure.
