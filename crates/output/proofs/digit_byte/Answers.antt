@@ -1,0 +1,12 @@
+-- `output::digit_byte` meets its contract. Assumes nothing.
+use borrow.Author.Tests.{lt-ltb, le-ltb}
+use Rattle.digits.specs.Numerals.{digit_byte}
+use Rattle.output.proofs.digit_byte.Goals as goal
+
+pub returns-then-d-lt10 : goal.returns-then-d-lt10
+unfolding digit_byte
+returns-then-d-lt10 c = rw (lt-ltb _ 10 c.if-d-lt10.true)
+
+pub returns-else-d-lt10 : goal.returns-else-d-lt10
+unfolding digit_byte
+returns-else-d-lt10 c = rw (le-ltb _ 10 c.if-d-lt10.false)
