@@ -1,6 +1,6 @@
 -- What is claimed of the strict reader: what its answer says of the text, case by case. That exactly the texts of the published grammar are
 -- read, and the place over that grammar, is claimed in `grammar`. Assumes nothing.
-use mathlib.Core.Path.{◌≡◌, refl, sym, ap, ap₂, ◌∙◌}
+use mathlib.Core.Path.{◌≡◌, sym, ap, ap₂, ◌∙◌}
 use mathlib.Core.Logic.{◌↔◌}
 use mathlib.Core.List.{List}
 use Prim.Native.Nat.{ℕ}
@@ -8,7 +8,7 @@ use native.Mathlib.Omega.{arith}
 use Rattle.address.specs.declared.Address.{Address}
 use Rattle.address.specs.declared.Refusal.{Refusal}
 use Rattle.address.specs.declared.Refusal.TheVariants.{Malformed}
-use Rattle.address.specs.Answers.{Answer, gives, refusal_number}
+use Rattle.address.specs.Answers.{gives, refusal_number}
 use Rattle.address.proofs.AnswerLaws.{number_pos}
 use Rattle.address.proofs.Claims.{one_number}
 use Rattle.text.specs.Strict.{strict_answer}

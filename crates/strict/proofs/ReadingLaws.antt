@@ -1,5 +1,5 @@
 -- The reading, and the place that its refusal carries. Assumes nothing.
-use mathlib.Core.Path.{◌≡◌, refl, sym, ap, ap₂, ◌∙◌}
+use mathlib.Core.Path.{◌≡◌, sym, ap, ◌∙◌}
 use mathlib.Core.List.{List}
 use Prim.Native.Nat.{ℕ}
 use borrow.Author.Tests.{eq-eqb, ne_eqb}
@@ -7,7 +7,7 @@ use Rattle.address.specs.declared.Address.{Address}
 use Rattle.address.specs.declared.Refusal.{Refusal}
 use Rattle.address.specs.declared.Reading.{Reading}
 use Rattle.address.specs.declared.Reading.TheVariants as reading
-use Rattle.address.specs.Answers.{Answer, gives, refuses, refusal_number, no_address, reading_answer}
+use Rattle.address.specs.Answers.{gives, refuses, refusal_number, no_address, reading_answer}
 use Rattle.text.specs.Strict.{strict_answer}
 use Rattle.place.specs.Place.{fault_place, placed_answer}
 use Rattle.strict.specs.Inner.{refused_place}

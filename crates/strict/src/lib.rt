@@ -13,7 +13,6 @@ use address::{Address, Reading, Refusal};
 use digits::parts::whole_part;
 use digits::read::{Leading, leading_number};
 
-
 // What the strict reader answers: the address, or why not and the place of the fault, which is 0 but for `Malformed`.
 #[derive(Clone, Copy)]
 pub enum StrictReading {
