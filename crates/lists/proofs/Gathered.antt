@@ -104,6 +104,7 @@ module _ (W : ℕ) where
 
   as_at : {k x : ℕ} (es : List Entry) → CoveredAs W es k x → (i : ℕ) × CoversAt W (blocks es) i x × (label_at es i ≡ k)
   unfolding label_at
+  as_at [] o = elim o [ ]
   as_at (e ∷ es) (here p c) = (0, c, p)
   as_at (e ∷ es) (there o) = let (i, c, p) = as_at es o in (suc i, c, p)
 

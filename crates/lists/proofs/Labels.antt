@@ -78,6 +78,7 @@ labelled_covers k (b ∷ bs) zero x c = here refl c
 labelled_covers k (b ∷ bs) (suc i) x c = there (labelled_covers k bs i x c)
 
 labelled_covered : {W : ℕ} (k : ℕ) (bs : List Block) (j x : ℕ) → CoveredAs W (labelled k bs) j x → (k ≡ j) × CoveredBy W bs x
+labelled_covered k [] j x o = elim o [ ]
 labelled_covered k (b ∷ bs) j x (here p c) = (p, (0, c))
 labelled_covered k (b ∷ bs) j x (there o) = let r = labelled_covered k bs j x o in (r.0, (suc r.1.0, r.1.1))
 
@@ -100,6 +101,7 @@ labelled_valid W k (b ∷ bs) B = (B.0, labelled_valid W k bs B.1)
 -- ---- lists of one label
 
 pub all_labelled : {W j x : ℕ} (k : ℕ) (es : List Entry) → AllLabelled k es → CoveredAs W es j x → j ≡ k
+all_labelled k [] a o = elim o [ ]
 all_labelled k (e ∷ es) a (here p c) = sym p ∙ a.0
 all_labelled k (e ∷ es) a (there o) = all_labelled k es a.1 o
 
@@ -211,5 +213,6 @@ blocks_as_rising k es = blocks_as_ind k (λ fs bs. Rising (blocks fs) → Rising
 
 -- a rising list that starts no lower than a covers nothing below a
 pub as_from : {W k x : ℕ} (es : List Entry) (a : ℕ) → AllBlocks W (blocks es) → Rising (blocks es) → From a (blocks es) → CoveredAs W es k x → a ≤ x
+as_from [] a B r l o = elim o [ ]
 as_from (e ∷ es) a B r l (here p c) = omega (arith, l, (covers_to_within B.0 c).low)
 as_from (e ∷ es) a B r l (there o) = as_from es a B.1 (rising_tail e.block (blocks es) r) (from_lower (blocks es) l (rising_from e.block (blocks es) r)) o

@@ -244,7 +244,7 @@ from_start W r e es t = rw (t, gathered_from)
 
 pub made : {W : ℕ} {r : Run} (es : List Entry) → Pass W r es → Made W r es (gathered_from W r es)
 made {W} {r} [] P = rw from_end (made_end P)
-made {W} {r} (e ∷ es) P = go (joins r e) refl (made es) (made es (pass_start e es P))
+made {W} {r} (e ∷ es) P = go (joins r e) refl (made {r = joined W r e} es) (made {r = run_of W e} es (pass_start e es P))
   where
     go : (t : Bool) → joins r e ≡ t → (Pass W (joined W r e) es → Made W (joined W r e) es (gathered_from W (joined W r e) es))
         → Made W (run_of W e) es (gathered_from W (run_of W e) es) → Made W r (e ∷ es) (gathered_from W r (e ∷ es))

@@ -10,14 +10,13 @@ use lib.Dec.{eqb, ltb}
 use lib.IntN.{ℤ}
 use lib.ListN.{length, get_or}
 use lib.Signed.{non_neg}
-use Rattle.io.specs.Counts.{clamp_len}
 use Rattle.notation.specs.Ascii.{ascii, within}
 use Rattle.notation.proofs.AsciiLaws.{within_exactly}
 use Rattle.program_io.specs.declared.Got.{Got}
 use Rattle.program_io.specs.declared.Got.TheVariants.{Bytes, Again, Failed}
 use Rattle.program_io.specs.declared.Digit.{Digit}
 use Rattle.program_io.specs.declared.Digit.TheVariants.{Is, NoDigit}
-use Rattle.program_io.specs.Calls.{brought_of, is_stuck, is_dash, single_digit, trouble_text}
+use Rattle.program_io.specs.Calls.{clamp_len, brought_of, is_stuck, is_dash, single_digit, trouble_text}
 
 -- ---- what a read has brought
 

@@ -12,13 +12,12 @@ use lib.Signed.{non_neg, lt_z}
 use mir.Syntax.{w64}
 use mir.Val.{SFits, to_z, of_z}
 use mir.Facts.{to_z-of_z}
-use Rattle.io.specs.Counts.{clamp_len}
 use Rattle.notation.specs.Ascii.{within}
 use Rattle.notation.proofs.AsciiLaws.{within_exactly}
 use Rattle.program_io.specs.declared.Digit.TheVariants.{Is, NoDigit}
 use Rattle.program_io.specs.declared.Got.{Got}
 use Rattle.program_io.specs.declared.Got.TheVariants.{Bytes, Again, Failed}
-use Rattle.program_io.specs.Calls.{brought_of, Filled, is_stuck, is_dash, single_digit}
+use Rattle.program_io.specs.Calls.{clamp_len, brought_of, Filled, is_stuck, is_dash, single_digit}
 
 -- ---- what a read has brought
 

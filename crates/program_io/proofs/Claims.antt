@@ -6,11 +6,10 @@ use mathlib.Core.List.{List, [], ◌∷◌}
 use Prim.Native.Nat.{ℕ, ◌+◌, ◌≤◌}
 use lib.IntN.{ℤ}
 use lib.Signed.{non_neg}
-use Rattle.io.specs.Counts.{clamp_len}
 use Rattle.notation.specs.Ascii.{ascii}
 use Rattle.program_io.specs.declared.Got.TheVariants.{Bytes, Again, Failed}
 use Rattle.program_io.specs.declared.Digit.TheVariants.{Is}
-use Rattle.program_io.specs.Calls.{brought_of, is_stuck, is_dash, single_digit, trouble_text}
+use Rattle.program_io.specs.Calls.{clamp_len, brought_of, is_stuck, is_dash, single_digit, trouble_text}
 use Rattle.program_io.proofs.AnswerLaws as answers
 
 module _ (got : ℤ) (interrupted : Bool) (size : ℕ) where

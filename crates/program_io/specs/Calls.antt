@@ -1,12 +1,26 @@
 -- What the programs make of the answers of the system. Assumes nothing.
-use Rattle.std.specs.Prelude.{Bool, true, false, cond, not, List, [], ◌∷◌, ◌++◌, ℕ, ◌-◌, ◌≤◌, eqb, ltb, ℤ}
+use Rattle.std.specs.Prelude.{◌≡◌, ◌↔◌, Bool, true, false, cond, not, IsTrue, List, [], ◌∷◌, ◌++◌, ℕ, ◌-◌, ◌≤◌, eqb, ltb, min, ℤ, pos, negsuc, Result, Ok, Err}
+use Rattle.std.specs.IoError.{error_kind}
 use Rattle.std.specs.Int.Signed.{non_neg}
-use Rattle.io.specs.Counts.{clamp_len}
+use Rattle.std.specs.declared.io.Error.{Error}
+use Rattle.std.specs.declared.io.ErrorKind.TheVariants.{Interrupted}
+use Rattle.output.specs.Placing.{Puts}
+use Rattle.program_io.specs.declared.Call.{Call}
 use Rattle.notation.specs.Ascii.{ascii, within}
 use Rattle.program_io.specs.declared.Got.{Got}
 use Rattle.program_io.specs.declared.Got.TheVariants.{Bytes, Again, Failed}
 use Rattle.program_io.specs.declared.Digit.{Digit}
 use Rattle.program_io.specs.declared.Digit.TheVariants.{Is, NoDigit}
+
+-- What a call answered in std's form, as the system has it: so many bytes, or -1 and whether it was interrupted (POSIX, errno).
+abbrev pub IsCall : Result ℕ Error → Call → Type 0
+IsCall (Ok n) call = (call.got ≡ pos n) × (call.interrupted ≡ false)
+IsCall (Err e) call = (call.got ≡ negsuc 0) × (IsTrue call.interrupted ↔ (error_kind e ≡ Interrupted))
+
+-- what a call answered, brought into `0..=most`
+abbrev pub clamp_len : ℤ → ℕ → ℕ
+clamp_len (pos k) most = min k most
+clamp_len (negsuc k) most = 0
 
 -- What a read that answered `got` has brought to a buffer of so many bytes: a negative answer is a failure, and one that was interrupted is made
 -- again (POSIX, read).
@@ -39,3 +53,12 @@ single_digit (x ∷ y ∷ t) = NoDigit
 unfoldable pub trouble_text : List ℕ → List ℕ
 unfolding ascii
 trouble_text what = ascii "nibharrow: " ++ what
+
+-- what is told behind that, with some words of the system
+unfoldable pub reason_text : List ℕ → List ℕ
+unfolding ascii
+reason_text words = ascii ": " ++ (words ++ ascii "\n")
+
+-- a call that puts it at an index of the buffer
+abbrev pub PutsReason : List ℕ → List ℕ → ℕ → ℕ → Type 0
+PutsReason old new at next = (words : List ℕ) × Puts old new at next (reason_text words)

@@ -1,5 +1,5 @@
 -- A range as runs: the blocks of the numbers of a lane are those of the addresses that they stand for. Assumes nothing.
-use Rattle.std.proofs.Common.{◌≡◌, ℕ, suc, ◌+◌, ◌-◌, ◌*◌, ◌/◌, ◌%◌, ◌^◌, ◌<◌, ◌≤◌, ◌⊎◌, List, [], ◌∷◌, ◌++◌, length, sym, refl, ap, ◌∙◌, subst, ap₂, inl, inr, add-zero, lt_irrefl, mul-le-mul_right, mul_assoc, add-mul, lt_of_mul-lt-mul_right, suc-add, one-mul, zero-add, mul-div_cancel, arith, pow_pos, pow_mono, pow-add}
+use Rattle.std.proofs.Common.{◌≡◌, ℕ, suc, ◌+◌, ◌-◌, ◌*◌, ◌/◌, ◌%◌, ◌^◌, ◌<◌, ◌≤◌, ◌⊎◌, List, [], ◌∷◌, ◌++◌, sym, refl, ap, ◌∙◌, subst, ap₂, inl, inr, add-zero, lt_irrefl, mul-le-mul_right, mul_assoc, add-mul, lt_of_mul-lt-mul_right, suc-add, one-mul, zero-add, mul-div_cancel, arith, pow_pos, pow_mono, pow-add}
 use native.Mathlib.Nat.{mul-mod_left, mod-add-mod}
 use native.Mathlib.Decide.{dec_le}
 use Rattle.wide.specs.Value.{value}

@@ -1,3 +1,4 @@
+-- `records::record_size` meets its contract. Assumes nothing.
 use Rattle.records.proofs.record_size.Goals as goal
 
 pub returns-in-V4 : goal.returns-in-V4
