@@ -4,7 +4,6 @@ use mathlib.Core.List.{List, ◌∷◌, ◌++◌}
 use mathlib.Core.Option.{some}
 use Prim.Native.Nat.{ℕ, ◌≤◌}
 use native.Mathlib.Omega.{arith}
-use lib.ListN.{length}
 use Rattle.notation.specs.Pieces.{Lacks}
 use Rattle.notation.proofs.SeparatedLaws.{seam}
 use Rattle.address.specs.declared.Address.{Address}
