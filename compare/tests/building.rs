@@ -14,16 +14,22 @@ cat
 printf 0 >&"$1"
 "#;
 
-/// Proves four crates, of which one is unchanged, and writes the program. It reads its standard
-/// input, which must not be that of the program.
+/// Proves a crate, of which one is unchanged, and writes the program. It reads its standard input,
+/// which must not be that of the program.
 const RT: &str = r#"#!/bin/sh
-cat >>read
-echo "rt: notation proved (unchanged since it was last proved)"
-echo "library notation: modules loaded=3 checked=0"
-echo "rt: digits proved (2 s)"
-echo "rt: range_lines proved (3 s)" >&2
-mkdir -p target/bin && cp program target/bin/range_main && chmod +x target/bin/range_main
-echo "rt: $2 proved (1 s)"
+cat >>../../read
+case "$1 $PWD" in
+'lib '*/notation) ;;
+'lib '*/digits | 'lib '*/range_lines)
+    echo "crate ${PWD##*/}: modules loaded=3 checked=0"
+    echo "logic=proved functions=1" >&2
+    ;;
+'run '*/range_main)
+    mkdir -p out && cp ../../program out/range_main && chmod +x out/range_main
+    echo "rt: running out/range_main"
+    ;;
+*) exit 1 ;;
+esac
 "#;
 
 const BUILT: &str = "\
@@ -34,8 +40,8 @@ nibharrow: proved crate 4 of 4: range_main
 ";
 
 /// The tools that the script and the stand-in call.
-const TOOLS: [&str; 12] = [
-    "awk", "cat", "chmod", "cp", "dirname", "find", "mkdir", "mv", "readlink", "sh", "tail",
+const TOOLS: [&str; 13] = [
+    "awk", "cat", "chmod", "cp", "dirname", "find", "mkdir", "mv", "readlink", "rm", "sh", "tail",
     "touch",
 ];
 
@@ -44,11 +50,11 @@ fn project(name: &str, rt: &str) -> Scratch {
     let scratch = Scratch::new(name);
     scratch.file(
         "crates.txt",
-        b"notation:\nunused: notation\ndigits: notation\nrange_lines: digits notation\nrange_main: io libc os digits range_lines\n",
+        b"notation:\nunused: notation\ndigits: notation\nrange_lines: digits notation\nrange_main: io digits range_lines\n",
     );
     scratch.file("program", PROGRAM.as_bytes());
     let prepared =
-        scratch.sh("mkdir -p crates/digits/src bin tools && echo x > crates/digits/src/lib.rt");
+        scratch.sh("mkdir -p crates/digits/src crates/notation crates/range_lines crates/range_main bin tools && echo x > crates/digits/src/lib.rt");
     prepared.is("", "", 0);
     scratch.file("bin/rt", rt.as_bytes());
     let script = concat!(env!("CARGO_MANIFEST_DIR"), "/../nibharrow");
@@ -77,8 +83,8 @@ fn first_use_builds() {
     project.sh(RUN).is("line\n", "", 0);
     assert_eq!(project.read("read"), b"", "the build read the input");
     let log = String::from_utf8(project.read("target/build.log")).expect("plain text");
-    assert!(log.starts_with("rt: notation proved (unchanged"), "{log}");
-    assert!(log.ends_with("rt: range_main proved (1 s)\n"), "{log}");
+    assert!(log.starts_with("crate digits: modules loaded=3"), "{log}");
+    assert!(log.ends_with("rt: running out/range_main\n"), "{log}");
 }
 
 #[test]
@@ -90,7 +96,7 @@ fn newer_source_is_built_once() {
         "touch crates.txt",
         "echo x > crates/digits/src/more.rt",
         "rm crates/digits/src/more.rt",
-        "rm target/bin/range_main",
+        "rm target/bin/range_main crates/range_main/out/range_main",
     ] {
         project.sh(change).is("", "", 0);
         project.sh(RUN).is("line\n", BUILT, 0);
@@ -101,9 +107,14 @@ fn newer_source_is_built_once() {
 #[test]
 fn program_that_rt_built_by_hand_is_taken() {
     let project = project("built_by_hand", RT);
-    project
-        .sh("bin/rt check range_main > log 2>&1")
-        .is("", "", 0);
+    let by_hand = "(cd crates/range_main && ../../bin/rt run > ../../log 2>&1)";
+    project.sh(&format!("{by_hand} < /dev/null")).is("", "", 0);
+    project.sh(RUN).is("line\n", "", 0);
+    project.sh("touch crates.txt").is("", "", 0);
+    project.sh(RUN).is("line\n", BUILT, 0);
+    // and so is one that is newer than what the script has built
+    project.sh("touch crates.txt && sleep 0.05").is("", "", 0);
+    project.sh(&format!("{by_hand} < /dev/null")).is("", "", 0);
     project.sh(RUN).is("line\n", "", 0);
     project.sh("touch crates.txt").is("", "", 0);
     project.sh(RUN).is("line\n", BUILT, 0);
@@ -111,7 +122,7 @@ fn program_that_rt_built_by_hand_is_taken() {
 
 #[test]
 fn source_that_is_altered_during_the_build_is_newer() {
-    let project = project("altered_during", &format!("{RT}touch crates.txt\n"));
+    let project = project("altered_during", &format!("{RT}touch ../../crates.txt\n"));
     project.sh(RUN).is("line\n", BUILT, 0);
     project.sh(RUN).is("line\n", BUILT, 0);
 }
@@ -157,7 +168,7 @@ fn failed_build_is_told_with_the_end_of_its_log() {
 fn program_that_rt_does_not_write_is_told() {
     let project = project("no_program", "#!/bin/sh\ntrue\n");
     let told = format!(
-        "{}nibharrow: rt calls range_main proved, and there is no target/bin/range_main: remove target and try again\n",
+        "{}nibharrow: rt calls range_main proved, and there is no crates/range_main/out/range_main: remove crates/range_main/out and try again\n",
         &BUILT[..=BUILT.find('\n').expect("a line")]
     );
     project.sh(RUN).is("", &told, 2);

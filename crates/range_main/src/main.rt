@@ -9,9 +9,15 @@ ghost use Rattle.std.specs.Prelude.{◌≡◌, false, cond, ◌||◌, ◌+◌, �
 ghost use Rattle.program_io.specs.Calls.{Filled};
 ghost use Rattle.range_main.specs.Runs.{Within, OrUnwritten, AnswersPiece, AnswersEnd, AfterRead, Turns, end_of, is_more, Finished, status_of, stops_at};
 
-use libc::{STDERR_FILENO, STDIN_FILENO, STDOUT_FILENO};
-use program_io::{Digit, Got, brought, is_dash, put_trouble, single_digit, write_text};
+use program_io::{
+    Digit, Got, Streams, answered, argument, brought, is_dash, no_error, path_text, put_trouble,
+    put_reason, single_digit, write_text,
+};
 use range_lines::{Fed, Reader, feed, finish, is_begun, start};
+use std::env::{Env, FillError};
+use std::fs;
+use std::fs::{File, OpenOptions};
+use std::io::{Error, Read, Result};
 
 // How far an input is: there is more, or it has ended, or it could not be read, or the answers could not be written.
 #[derive(Clone, Copy)]
@@ -63,10 +69,12 @@ struct Files {
 }
 
 // Tells on standard error what failed, with the system's words.
-fn tell(what: &[u8]) {
+fn tell(streams: Streams, what: &[u8], why: Error) {
     let mut line = [0u8; 4200];
-    let end = put_trouble(&mut line, what);
-    os::fail(&line[..end]);
+    let named = put_trouble(&mut line, what);
+    let end = put_reason(&mut line, named, why);
+    let mut error = streams.error;
+    write_text(&mut error, &line[..end]);
 }
 
 // The input could not be read, or the answers could not be written.
@@ -84,17 +92,19 @@ fn failed(run: Run, end: End) -> Run
 }
 
 // Writes what a call has put, and answers whether all of it is written.
-fn write_answers(fed: Fed, out: &[u8], notes: &[u8]) -> bool
+fn write_answers(streams: Streams, fed: Fed, out: &[u8], notes: &[u8]) -> bool
     requires { (fed.next ≤ length out.now) × (fed.noted ≤ length notes.now) }
 {
     let next = fed.next;
     let noted = fed.noted;
-    let answers = write_text(STDOUT_FILENO, &out[..next]);
+    let mut output = streams.output;
+    let answers = write_text(&mut output, &out[..next]);
     if 0 < answers.left {
-        tell(b"write error");
+        tell(streams, b"write error", answers.why);
         return false;
     }
-    let told = write_text(STDERR_FILENO, &notes[..noted]);
+    let mut error = streams.error;
+    let told = write_text(&mut error, &notes[..noted]);
     told.left == 0
 }
 
@@ -110,6 +120,7 @@ fn either(a: bool, b: bool) -> bool
 
 // Answers the bytes that are read and not taken yet, as far as the buffers have room for the answers.
 fn answer_piece(
+    streams: Streams,
     run: Run,
     input: &[u8],
     explain: bool,
@@ -124,7 +135,7 @@ fn answer_piece(
     let to = run.to;
     let before = run.reader;
     let fed = feed(before, &input[from..to], explain, name, out, notes);
-    if !write_answers(fed, out, notes) {
+    if !write_answers(streams, fed, out, notes) {
         return failed(run, End::Unwritten);
     }
     let reader = fed.reader;
@@ -148,13 +159,20 @@ fn end_of(reader: Reader) -> End
 }
 
 // Answers a last line without its newline.
-fn answer_end(run: Run, explain: bool, name: &[u8], out: &mut [u8], notes: &mut [u8]) -> Run
+fn answer_end(
+    streams: Streams,
+    run: Run,
+    explain: bool,
+    name: &[u8],
+    out: &mut [u8],
+    notes: &mut [u8],
+) -> Run
     requires { (length out.old ≡ 65536) × (length notes.old ≡ 65536) }
     ensures { Within result × OrUnwritten result (AnswersEnd explain name.now run result) }
 {
     let before = run.reader;
     let fed = finish(before, explain, name, out, notes);
-    if !write_answers(fed, out, notes) {
+    if !write_answers(streams, fed, out, notes) {
         return failed(run, End::Unwritten);
     }
     let reader = fed.reader;
@@ -169,8 +187,10 @@ fn answer_end(run: Run, explain: bool, name: &[u8], out: &mut [u8], notes: &mut 
 
 // Answers what a read has brought.
 fn after_read(
+    streams: Streams,
     run: Run,
     got: Got,
+    why: Error,
     input: &[u8],
     explain: bool,
     name: &[u8],
@@ -183,12 +203,12 @@ fn after_read(
     match got {
         Got::Again => run,
         Got::Failed => {
-            tell(name);
+            tell(streams, name, why);
             failed(run, End::Unread)
         }
         Got::Bytes(n) => {
             if n == 0 {
-                return answer_end(run, explain, name, out, notes);
+                return answer_end(streams, run, explain, name, out, notes);
             }
             let reader = run.reader;
             let piece = Run {
@@ -198,14 +218,15 @@ fn after_read(
                 refused: run.refused,
                 end: End::More,
             };
-            answer_piece(piece, input, explain, name, out, notes)
+            answer_piece(streams, piece, input, explain, name, out, notes)
         }
     }
 }
 
 // One turn: reads a piece where nothing is left of the last one, answers it, and writes the answers.
-fn turn(
-    fd: i32,
+fn turn<R: Read>(
+    from: &mut R,
+    streams: Streams,
     run: Run,
     input: &mut [u8],
     explain: bool,
@@ -217,12 +238,13 @@ fn turn(
     ensures { Within result × Turns explain name.now run input.new result }
 {
     if run.from < run.to {
-        return answer_piece(run, input, explain, name, out, notes);
+        return answer_piece(streams, run, input, explain, name, out, notes);
     }
-    let moved = libc::read(fd, input);
-    let interrupted = os::errno() == libc::EINTR;
-    let got = brought(moved, interrupted, input);
-    after_read(run, got, input, explain, name, out, notes)
+    let call = answered(from.read(input));
+    let got = brought(call.got, call.interrupted, input);
+    after_read(
+        streams, run, got, call.why, input, explain, name, out, notes,
+    )
 }
 
 // Whether there is more.
@@ -239,12 +261,12 @@ fn goes_on(end: End) -> bool
 
 // Reads, answers and writes, turn after turn, until there is no more. Nothing says that an input ends, so the turns are counted, up to a number
 // that no run reaches.
-fn answer_all(fd: i32, explain: bool, name: &[u8]) -> Outcome
+fn answer_all<R: Read>(from: &mut R, streams: Streams, explain: bool, name: &[u8]) -> Outcome
     ensures { Finished result }
 {
-    let mut input = io::large_buffer();
-    let mut out = io::large_buffer();
-    let mut notes = io::large_buffer();
+    let mut input = [0u8; 65536];
+    let mut out = [0u8; 65536];
+    let mut notes = [0u8; 65536];
     let mut run = Run {
         reader: start(),
         from: 0,
@@ -254,7 +276,9 @@ fn answer_all(fd: i32, explain: bool, name: &[u8]) -> Outcome
     };
     let mut turns: u64 = 0;
     while turns < u64::MAX {
-        run = turn(fd, run, &mut input, explain, name, &mut out, &mut notes);
+        run = turn(
+            from, streams, run, &mut input, explain, name, &mut out, &mut notes,
+        );
         turns += 1;
         let end = run.end;
         if !goes_on(end) {
@@ -284,7 +308,7 @@ fn refused_status(refused: bool) -> u8
 }
 
 // The status of an input. Where the answers could not be written nothing more is to be read.
-fn judge(outcome: Outcome, name: &[u8]) -> Verdict
+fn judge(streams: Streams, outcome: Outcome, name: &[u8]) -> Verdict
     ensures { (result.status ≡ status_of outcome.end outcome.refused) × (result.stop ≡ stops_at outcome.end) }
 {
     let end = outcome.end;
@@ -302,7 +326,7 @@ fn judge(outcome: Outcome, name: &[u8]) -> Verdict
             stop: true,
         },
         End::More => {
-            tell(name);
+            tell(streams, name, no_error());
             Verdict {
                 status: 2,
                 stop: true,
@@ -311,36 +335,43 @@ fn judge(outcome: Outcome, name: &[u8]) -> Verdict
     }
 }
 
-fn answer_input(fd: i32, explain: bool, name: &[u8]) -> Verdict {
-    let outcome = answer_all(fd, explain, name);
-    judge(outcome, name)
+fn answer_input<R: Read>(from: &mut R, streams: Streams, explain: bool, name: &[u8]) -> Verdict {
+    let outcome = answer_all(from, streams, explain, name);
+    judge(streams, outcome, name)
+}
+
+fn answer_standard_input(streams: Streams, explain: bool) -> Verdict {
+    let mut input = streams.input;
+    answer_input(&mut input, streams, explain, b"(standard input)")
+}
+
+fn open_read<R: fs::Files>(rt: &R, path: &[u8]) -> Result<R::File> {
+    File::open(rt, path_text(path)?)
+}
+
+// An input that could not be opened.
+fn unopened(streams: Streams, name: &[u8], why: Error) -> Verdict {
+    tell(streams, name, why);
+    Verdict {
+        status: 2,
+        stop: false,
+    }
 }
 
 // The file that the argument names.
-fn answer_file(i: usize, explain: bool) -> Verdict {
-    let mut path = io::buffer();
-    let n = os::arg(i, &mut path);
-    if os::errno() != 0 {
-        tell(&path);
-        return Verdict {
-            status: 2,
-            stop: false,
-        };
-    }
+fn answer_file<R: Env + fs::Files>(rt: &R, streams: Streams, i: usize, explain: bool) -> Verdict {
+    let mut path = [0u8; 4096];
+    let n = match argument(rt, i, &mut path) {
+        Ok(n) => n,
+        Err(why) => return unopened(streams, &path, why),
+    };
     if is_dash(&path[..n]) {
-        return answer_input(STDIN_FILENO, explain, b"(standard input)");
+        return answer_standard_input(streams, explain);
     }
-    let fd = os::open_read(&path[..n]);
-    if fd < 0 {
-        tell(&path[..n]);
-        return Verdict {
-            status: 2,
-            stop: false,
-        };
+    match open_read(rt, &path[..n]) {
+        Ok(mut file) => answer_input(&mut file, streams, explain, &path[..n]),
+        Err(why) => unopened(streams, &path[..n], why),
     }
-    let verdict = answer_input(fd, explain, &path[..n]);
-    libc::close(fd);
-    verdict
 }
 
 // A file more: the worst status counts.
@@ -360,7 +391,7 @@ fn counted(tally: Tally, verdict: Verdict) -> Tally
 }
 
 // The files that the arguments from the third on name, in turn. They are all answered, unless the program is to stop.
-fn answer_files(count: usize, explain: bool) -> Files
+fn answer_files<R: Env + fs::Files>(rt: &R, streams: Streams, count: usize, explain: bool) -> Files
     ensures { result.tally.stop ≡ false → 3 ≤ count → result.next ≡ count }
 {
     let mut tally = Tally {
@@ -369,7 +400,7 @@ fn answer_files(count: usize, explain: bool) -> Files
     };
     let mut next: usize = 3;
     while next < count {
-        tally = counted(tally, answer_file(next, explain));
+        tally = counted(tally, answer_file(rt, streams, next, explain));
         if tally.stop {
             return Files { tally, next };
         }
@@ -378,10 +409,23 @@ fn answer_files(count: usize, explain: bool) -> Files
     Files { tally, next }
 }
 
+// How many arguments the program was started with, its own name among them.
+fn argument_count(env: &impl Env) -> usize {
+    let mut text = [0u8; 1];
+    let mut count: usize = 0;
+    while count < usize::MAX {
+        if let Err(FillError::NotPresent) = env.arg(count, &mut text) {
+            return count;
+        }
+        count += 1;
+    }
+    count
+}
+
 // Whether the second argument asks for notes.
-fn wants_notes() -> bool {
-    let mut text = io::buffer();
-    let n = os::arg(2, &mut text);
+fn wants_notes(env: &impl Env) -> bool {
+    let mut text = [0u8; 4096];
+    let n = argument(env, 2, &mut text).unwrap_or(0);
     if n != 2 {
         return false;
     }
@@ -391,25 +435,61 @@ fn wants_notes() -> bool {
     text[1] == b'e'
 }
 
+// Opens what a descriptor is open on for writing once more, at its end, if it is open for writing.
+// EBADF
+const NOT_OPEN_FOR_WRITING: i32 = 9;
+
+fn open_descriptor<R: fs::Files>(rt: &R, fd: u8) -> Result<R::File> {
+    let mut path = *b"/proc/self/fd/0";
+    path[14] += fd;
+    let path = path_text(&path)?;
+    // the link's own permissions say how the descriptor is open
+    let link = fs::symlink_metadata(rt, path)?;
+    if link.permissions().readonly() {
+        return Err(Error::from_raw_os_error(NOT_OPEN_FOR_WRITING));
+    }
+    OpenOptions::new().append(true).open(rt, path)
+}
+
 // Writes the status to the descriptor that the first argument names by a digit.
-fn write_status(status: u8) {
-    let mut text = io::buffer();
-    let n = os::arg(1, &mut text);
+fn write_status<R: Env + fs::Files>(rt: &R, streams: Streams, status: u8) {
+    let mut text = [0u8; 4096];
+    let n = argument(rt, 1, &mut text).unwrap_or(0);
     let Digit::Is(fd) = single_digit(&text[..n]) else {
         return;
     };
-    write_text(fd as i32, &[48 + status % 10]);
+    let digit = [48 + status % 10];
+    match fd {
+        1 => {
+            let mut output = streams.output;
+            write_text(&mut output, &digit);
+        }
+        2 => {
+            let mut error = streams.error;
+            write_text(&mut error, &digit);
+        }
+        _ => {
+            if let Ok(mut file) = open_descriptor(rt, fd) {
+                write_text(&mut file, &digit);
+            }
+        }
+    }
 }
 
-fn main() {
-    let count = os::arg_count();
-    let explain = wants_notes();
+fn main(rt: HostRuntime) {
+    let streams = Streams {
+        input: rt.stdin(),
+        output: rt.stdout(),
+        error: rt.stderr(),
+    };
+    let count = argument_count(&rt);
+    let explain = wants_notes(&rt);
     if count <= 3 {
-        let verdict = answer_input(STDIN_FILENO, explain, b"(standard input)");
-        write_status(verdict.status);
+        let verdict = answer_standard_input(streams, explain);
+        write_status(&rt, streams, verdict.status);
         return;
     }
-    let files = answer_files(count, explain);
+    let files = answer_files(&rt, streams, count, explain);
     let tally = files.tally;
-    write_status(tally.status);
+    write_status(&rt, streams, tally.status);
 }

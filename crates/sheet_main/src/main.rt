@@ -12,10 +12,16 @@ ghost use Rattle.sheet_main.specs.Runs.{reached, after_read, Turns, is_more, is_
 
 use address::Writing;
 use digits::read::find;
-use libc::{STDERR_FILENO, STDIN_FILENO, STDOUT_FILENO};
-use program_io::{Digit, Got, Sent, brought, is_dash, put_trouble, single_digit, write_text};
+use program_io::{
+    Digit, Got, Sent, Streams, answered, argument, brought, is_dash, no_error, path_text,
+    put_trouble, put_reason, single_digit, write_text,
+};
 use sheet::respell;
 use sheet_notes::put_refused;
+use std::env::{Env, FillError};
+use std::fs;
+use std::fs::{File, OpenOptions};
+use std::io::{Error, Read, Result};
 
 // How far an input is: there may be more, or it has ended, or it is longer than a sheet may be, or it could not be read.
 #[derive(Clone, Copy)]
@@ -73,10 +79,12 @@ struct Options {
 }
 
 // Tells on standard error what failed, with the system's words.
-fn tell(what: &[u8]) {
+fn tell(streams: Streams, what: &[u8], why: Error) {
     let mut line = [0u8; 4200];
-    let end = put_trouble(&mut line, what);
-    os::fail(&line[..end]);
+    let named = put_trouble(&mut line, what);
+    let end = put_reason(&mut line, named, why);
+    let mut error = streams.error;
+    write_text(&mut error, &line[..end]);
 }
 
 // ---- read
@@ -98,14 +106,14 @@ fn reach(len: usize) -> Run
 }
 
 // What a read has brought stands behind what was read before. A read that failed is told, and is not the end.
-fn after_read(run: Run, got: Got, name: &[u8]) -> Run
+fn after_read(streams: Streams, run: Run, got: Got, why: Error, name: &[u8]) -> Run
     requires { (run.len ≤ 65537) × Filled (65537 - run.len) got }
     ensures { result ≡ after_read run got }
 {
     match got {
         Got::Again => run,
         Got::Failed => {
-            tell(name);
+            tell(streams, name, why);
             Run {
                 len: run.len,
                 end: End::Unread,
@@ -124,15 +132,14 @@ fn after_read(run: Run, got: Got, name: &[u8]) -> Run
 }
 
 // One turn: reads behind the bytes that are there.
-fn turn(fd: i32, run: Run, input: &mut [u8], name: &[u8]) -> Run
+fn turn<R: Read>(from: &mut R, streams: Streams, run: Run, input: &mut [u8], name: &[u8]) -> Run
     requires { (run.len ≤ 65537) × (length input.old ≡ 65537) }
     ensures { Turns run input.old input.new result }
 {
     let len = run.len;
-    let moved = libc::read(fd, &mut input[len..]);
-    let interrupted = os::errno() == libc::EINTR;
-    let got = brought(moved, interrupted, &input[len..]);
-    after_read(run, got, name)
+    let call = answered(from.read(&mut input[len..]));
+    let got = brought(call.got, call.interrupted, &input[len..]);
+    after_read(streams, run, got, call.why, name)
 }
 
 // Whether there may be more.
@@ -160,7 +167,7 @@ fn is_whole(end: End) -> bool
 }
 
 // Reads, turn after turn, until there is no more. Nothing says that an input ends, so the turns are counted, up to a number that no run reaches.
-fn read_all(fd: i32, input: &mut [u8], name: &[u8]) -> Outcome
+fn read_all<R: Read>(from: &mut R, streams: Streams, input: &mut [u8], name: &[u8]) -> Outcome
     requires { length input.old ≡ 65537 }
     ensures { Reads result.turns result.run input.new }
 {
@@ -170,7 +177,7 @@ fn read_all(fd: i32, input: &mut [u8], name: &[u8]) -> Outcome
     };
     let mut turns: u64 = 0;
     while turns < u64::MAX {
-        run = turn(fd, run, input, name);
+        run = turn(from, streams, run, input, name);
         turns += 1;
         let end = run.end;
         if !goes_on(end) {
@@ -214,36 +221,46 @@ fn put_reply(
 }
 
 // Writes it. Each byte was taken by a call, or is left.
-fn write_reply(reply: Reply, out: &[u8], note: &[u8]) -> Sent
+fn write_reply(streams: Streams, reply: Reply, out: &[u8], note: &[u8]) -> Sent
     requires { (reply.written ≤ length out.now) × (reply.noted ≤ length note.now) × (reply.written + reply.noted ≤ 65536) }
     ensures { result.moved + result.left ≡ reply.written + reply.noted }
 {
     let written = reply.written;
     let noted = reply.noted;
-    let answer = write_text(STDOUT_FILENO, &out[..written]);
+    let mut output = streams.output;
+    let answer = write_text(&mut output, &out[..written]);
     if 0 < answer.left {
-        tell(b"write error");
+        tell(streams, b"write error", answer.why);
         return Sent {
             moved: answer.moved,
             left: answer.left + noted,
+            why: answer.why,
         };
     }
-    let told = write_text(STDERR_FILENO, &note[..noted]);
+    let mut error = streams.error;
+    let told = write_text(&mut error, &note[..noted]);
     Sent {
         moved: answer.moved + told.moved,
         left: answer.left + told.left,
+        why: told.why,
     }
 }
 
 // Answers a sheet.
-fn answer_sheet(sheet: &[u8], sorted: bool, explain: bool, name: &[u8]) -> Answered
+fn answer_sheet(
+    streams: Streams,
+    sheet: &[u8],
+    sorted: bool,
+    explain: bool,
+    name: &[u8],
+) -> Answered
     requires { length name.now ≤ 4096 }
     ensures { Answers sorted explain name.now sheet.now result }
 {
     let mut out = [0u8; 53248];
     let mut note = [0u8; 4187];
     let reply = put_reply(sheet, sorted, explain, name, &mut out, &mut note);
-    let sent = write_reply(reply, &out, &note);
+    let sent = write_reply(streams, reply, &out, &note);
     Answered {
         refused: reply.refused,
         moved: sent.moved,
@@ -252,14 +269,20 @@ fn answer_sheet(sheet: &[u8], sorted: bool, explain: bool, name: &[u8]) -> Answe
 }
 
 // Answers what was read, if that tells the answer: a part of a sheet is not answered.
-fn answer_run(run: Run, input: &[u8], options: Options, name: &[u8]) -> Answered
+fn answer_run(streams: Streams, run: Run, input: &[u8], options: Options, name: &[u8]) -> Answered
     requires { (run.len ≤ length input.now) × (length name.now ≤ 4096) }
     ensures { AnswersRun options.sorted options.explain name.now run input.now result }
 {
     let end = run.end;
     let len = run.len;
     if is_whole(end) {
-        return answer_sheet(&input[..len], options.sorted, options.explain, name);
+        return answer_sheet(
+            streams,
+            &input[..len],
+            options.sorted,
+            options.explain,
+            name,
+        );
     }
     Answered {
         refused: false,
@@ -284,7 +307,7 @@ fn answered_status(refused: bool, left: usize) -> u8
 }
 
 // The status of an input, however it was read.
-fn judge(end: End, answered: Answered, name: &[u8]) -> u8
+fn judge(streams: Streams, end: End, answered: Answered, name: &[u8]) -> u8
     ensures { result ≡ status_of end answered.refused answered.left }
 {
     match end {
@@ -292,23 +315,29 @@ fn judge(end: End, answered: Answered, name: &[u8]) -> u8
         End::Full => answered_status(answered.refused, answered.left),
         End::Unread => 2,
         End::More => {
-            tell(name);
+            tell(streams, name, no_error());
             2
         }
     }
 }
 
 // Reads an input and answers it.
-fn answer_read(fd: i32, options: Options, name: &[u8], input: &mut [u8]) -> InputAnswer
+fn answer_read<R: Read>(
+    from: &mut R,
+    streams: Streams,
+    options: Options,
+    name: &[u8],
+    input: &mut [u8],
+) -> InputAnswer
     requires { (length name.now ≤ 4096) × (length input.old ≡ 65537) }
     ensures { AnswersInput options.sorted options.explain name.now input.new result }
 {
-    let outcome = read_all(fd, input, name);
+    let outcome = read_all(from, streams, input, name);
     let run = outcome.run;
     let turns = outcome.turns;
-    let answered = answer_run(run, input, options, name);
+    let answered = answer_run(streams, run, input, options, name);
     let end = run.end;
-    let status = judge(end, answered, name);
+    let status = judge(streams, end, answered, name);
     InputAnswer {
         run,
         turns,
@@ -318,31 +347,43 @@ fn answer_read(fd: i32, options: Options, name: &[u8], input: &mut [u8]) -> Inpu
 }
 
 // The status of an input.
-fn answer_input(fd: i32, options: Options, name: &[u8]) -> u8
+fn answer_input<R: Read>(from: &mut R, streams: Streams, options: Options, name: &[u8]) -> u8
     requires { length name.now ≤ 4096 }
 {
     let mut input = [0u8; 65537];
-    let answer = answer_read(fd, options, name, &mut input);
+    let answer = answer_read(from, streams, options, name, &mut input);
     answer.status
 }
 
+fn answer_standard_input(streams: Streams, options: Options) -> u8 {
+    let mut input = streams.input;
+    answer_input(&mut input, streams, options, b"(standard input)")
+}
+
+fn open_read<R: fs::Files>(rt: &R, path: &[u8]) -> Result<R::File> {
+    File::open(rt, path_text(path)?)
+}
+
+// An input that could not be opened.
+fn unopened(streams: Streams, name: &[u8], why: Error) -> u8 {
+    tell(streams, name, why);
+    2
+}
+
 // The file that the third argument names.
-fn answer_file(options: Options) -> u8 {
-    let mut path = io::buffer();
-    let n = os::arg(3, &mut path);
-    if os::errno() != 0 {
-        tell(&path);
-        return 2;
-    }
+fn answer_file<R: Env + fs::Files>(rt: &R, streams: Streams, options: Options) -> u8 {
+    let mut path = [0u8; 4096];
+    let n = match argument(rt, 3, &mut path) {
+        Ok(n) => n,
+        Err(why) => return unopened(streams, &path, why),
+    };
     if is_dash(&path[..n]) {
-        return answer_input(STDIN_FILENO, options, b"(standard input)");
+        return answer_standard_input(streams, options);
     }
-    let fd = os::open_read(&path[..n]);
-    if fd < 0 {
-        tell(&path[..n]);
-        return 2;
+    match open_read(rt, &path[..n]) {
+        Ok(mut file) => answer_input(&mut file, streams, options, &path[..n]),
+        Err(why) => unopened(streams, &path[..n], why),
     }
-    answer_input(fd, options, &path[..n])
 }
 
 // ---- the arguments
@@ -355,30 +396,77 @@ fn asks(options: &[u8], letter: u8) -> bool
 }
 
 // What the second argument asks for.
-fn read_options() -> Options {
-    let mut text = io::buffer();
-    let n = os::arg(2, &mut text);
+fn read_options(env: &impl Env) -> Options {
+    let mut text = [0u8; 4096];
+    let n = argument(env, 2, &mut text).unwrap_or(0);
     Options {
         sorted: asks(&text[..n], b's'),
         explain: asks(&text[..n], b'e'),
     }
 }
 
+// Whether there is an argument of that number.
+fn has_argument(env: &impl Env, i: usize) -> bool {
+    let mut text = [0u8; 1];
+    match env.arg(i, &mut text) {
+        Ok(_) => true,
+        Err(FillError::TooLong) => true,
+        Err(FillError::NotPresent) => false,
+    }
+}
+
+// Opens what a descriptor is open on for writing once more, at its end, if it is open for writing.
+// EBADF
+const NOT_OPEN_FOR_WRITING: i32 = 9;
+
+fn open_descriptor<R: fs::Files>(rt: &R, fd: u8) -> Result<R::File> {
+    let mut path = *b"/proc/self/fd/0";
+    path[14] += fd;
+    let path = path_text(&path)?;
+    // the link's own permissions say how the descriptor is open
+    let link = fs::symlink_metadata(rt, path)?;
+    if link.permissions().readonly() {
+        return Err(Error::from_raw_os_error(NOT_OPEN_FOR_WRITING));
+    }
+    OpenOptions::new().append(true).open(rt, path)
+}
+
 // Writes the status to the descriptor that the first argument names by a digit.
-fn write_status(status: u8) {
-    let mut text = io::buffer();
-    let n = os::arg(1, &mut text);
+fn write_status<R: Env + fs::Files>(rt: &R, streams: Streams, status: u8) {
+    let mut text = [0u8; 4096];
+    let n = argument(rt, 1, &mut text).unwrap_or(0);
     let Digit::Is(fd) = single_digit(&text[..n]) else {
         return;
     };
-    write_text(fd as i32, &[48 + status % 10]);
+    let digit = [48 + status % 10];
+    match fd {
+        1 => {
+            let mut output = streams.output;
+            write_text(&mut output, &digit);
+        }
+        2 => {
+            let mut error = streams.error;
+            write_text(&mut error, &digit);
+        }
+        _ => {
+            if let Ok(mut file) = open_descriptor(rt, fd) {
+                write_text(&mut file, &digit);
+            }
+        }
+    }
 }
 
-fn main() {
-    let options = read_options();
-    if os::arg_count() <= 3 {
-        write_status(answer_input(STDIN_FILENO, options, b"(standard input)"));
+fn main(rt: HostRuntime) {
+    let streams = Streams {
+        input: rt.stdin(),
+        output: rt.stdout(),
+        error: rt.stderr(),
+    };
+    let options = read_options(&rt);
+    if !has_argument(&rt, 3) {
+        write_status(&rt, streams, answer_standard_input(streams, options));
         return;
     }
-    write_status(answer_file(options));
+    let status = answer_file(&rt, streams, options);
+    write_status(&rt, streams, status);
 }
