@@ -1,7 +1,7 @@
 /*
  * Reads addresses and writes their normal text, then turns a range of addresses into blocks.
  *
- *     rt staticlib nibharrow
+ *     tools/staticlib
  *     cc -std=c99 -Iinclude examples/addresses.c target/staticlib/libnibharrow.a -o addresses
  *     ./addresses 2001:DB8:0:0:1:0:0:1 010.0.0.12
  *

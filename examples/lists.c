@@ -1,7 +1,7 @@
 /*
  * Gathers blocks into the fewest that cover the same addresses, and tells what they do not cover.
  *
- *     rt staticlib nibharrow
+ *     tools/staticlib
  *     cc -std=c99 -Iinclude examples/lists.c target/staticlib/libnibharrow.a -o lists
  *     ./lists 2001:db8::/33 2001:db8:8000::/33
  *

@@ -1,7 +1,7 @@
 /*
  * Respells the addresses of a sheet and sorts its lines by address: from standard input to standard output.
  *
- *     rt staticlib nibharrow
+ *     tools/staticlib
  *     cc -std=c99 -Iinclude examples/sheet.c target/staticlib/libnibharrow.a -o sheet
  *     ./sheet < examples/sheet.csv
  *

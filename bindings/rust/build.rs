@@ -1,4 +1,4 @@
-// Links the static library that `rt staticlib nibharrow` writes. NIBHARROW_LIB_DIR names another
+// Links the static library that `tools/staticlib` writes. NIBHARROW_LIB_DIR names another
 // folder that holds it.
 use std::env;
 use std::path::PathBuf;
@@ -15,7 +15,7 @@ fn main() {
     println!("cargo:rerun-if-changed={}", library.display());
     if !library.is_file() {
         panic!(
-            "{} is not there: run `rt staticlib nibharrow` first",
+            "{} is not there: run `tools/staticlib` first",
             library.display()
         );
     }

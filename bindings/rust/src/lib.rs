@@ -62,7 +62,7 @@
 //!
 //! # Linking
 //!
-//! The build script links `libnibharrow.a`, which `rt staticlib nibharrow` writes to
+//! The build script links `libnibharrow.a`, which `tools/staticlib` writes to
 //! `target/staticlib`. The environment variable `NIBHARROW_LIB_DIR` names another folder that holds
 //! it, by its absolute path.
 

@@ -11,7 +11,7 @@ use Rattle.notation.specs.BigEndian.{number_of}
 use Rattle.wide.specs.declared.Wide.{Wide}
 use Rattle.wide.specs.Value.{value}
 use Rattle.wide.proofs.Halves.{one_shifted}
-use Rattle.cover.specs.Blocks.{Block, IsBlock, range_blocks, after, size}
+use Rattle.cover.specs.Blocks.{Block, IsBlock, range_blocks, after}
 use Rattle.cover.proofs.Interval.{after_le}
 use Rattle.cover.proofs.Range.{range_step, range_done}
 use Rattle.address.specs.declared.Address.{Address}

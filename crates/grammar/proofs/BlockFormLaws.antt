@@ -25,7 +25,7 @@ use Rattle.text.specs.Strict.{strict_of}
 use Rattle.text.proofs.ByteLaws.{strict_lacks}
 use Rattle.blocks.specs.BlockText.{block_of, block_text_answer, block_text}
 use Rattle.blocks.proofs.BlockTextLaws.{block_parts, answer_long, answer_malformed, answer_checked}
-use Rattle.grammar.specs.StrictForm.{IPv4Text, StrictForm, either_4}
+use Rattle.grammar.specs.StrictForm.{IPv4Text, StrictForm, either_4, either_6}
 use Rattle.grammar.specs.BlockForm.{BlockForm, prefix, BlockCall, too_long, not_block, length_above, bits_beyond_lem, read_block, WrittenBlock, normal_prefix}
 use Rattle.grammar.proofs.NumberLaws.{size_reads, reads_size, size_999, size_spelling}
 use Rattle.grammar.proofs.LengthLaws.{block_most}
@@ -99,6 +99,7 @@ module _ (t : List ℕ) where
 -- an IPv4 text is one where the address is
 is_ipv4 : {t : List ℕ} {v : ℕ} → StrictForm 0 t (V4 v) → IPv4Text t (V4 v)
 is_ipv4 (either_4 h) = h
+is_ipv4 (either_6 h) = elim h [ ]
 
 pub block_spelling : {t : List ℕ} {v n : ℕ} → BlockForm t (V4 v) n → block_text (value (V4 v) n) ≡ t
 unfolding block_text

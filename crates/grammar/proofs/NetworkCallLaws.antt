@@ -44,9 +44,12 @@ size_most {t} {bs} {size} g i = go (given_octets t bs (given_reads g)).most i
     go l (no_less f h) = first_most f
 
 pub four_stays : {b size : ℕ} {bs : List ℕ} → 224 ≤ b → b < 240 → InferredSize (b ∷ bs) size → size ≡ 4
-four_stays {b} h l (becomes f i j) = let same = same_first f (224-up {b = b} h l) in absurd (omega arith)
-four_stays {b} h l (below_8 f i) = same_first f (224-up {b = b} h l)
-four_stays {b} h l (no_less f i) = same_first f (224-up {b = b} h l)
+four_stays h l i = go h l i
+  where
+    go : {b : ℕ} {bs : List ℕ} {size : ℕ} → 224 ≤ b → b < 240 → InferredSize (b ∷ bs) size → size ≡ 4
+    go {b} h l (becomes f i j) = let same = same_first f (224-up {b = b} h l) in absurd (omega arith)
+    go {b} h l (below_8 f i) = same_first f (224-up {b = b} h l)
+    go {b} h l (no_less f i) = same_first f (224-up {b = b} h l)
 
 -- ---- how many bytes
 

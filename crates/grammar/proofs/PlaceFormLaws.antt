@@ -1,5 +1,5 @@
 -- Where a strict text goes wrong: the place over the grammar is the one that is told. Assumes nothing.
-use mathlib.Core.Path.{◌≡◌, refl, sym, ap, subst, ◌∙◌}
+use mathlib.Core.Path.{◌≡◌, refl, sym, ap, ◌∙◌}
 use mathlib.Core.List.{List, ◌++◌}
 use Prim.Native.Nat.{ℕ, ◌≤◌}
 use native.Mathlib.Omega.{arith}
@@ -10,7 +10,7 @@ use Rattle.address.specs.Answers.{Answer, gives}
 use Rattle.text.specs.Strict.{strict_answer}
 use Rattle.place.specs.Place.{Beginning, LongestBeginning, fault_place, placed_answer}
 use Rattle.place.proofs.PlaceLaws.{place_longest}
-use Rattle.grammar.specs.StrictForm.{StrictForm, Known, StrictCall, unknown, too_long, not_strict_lem, read_strict}
+use Rattle.grammar.specs.StrictForm.{Known, StrictCall, unknown, too_long, not_strict_lem, read_strict}
 use Rattle.grammar.specs.PlaceForm.{Begins, GoesWrong, PlacedCall}
 use Rattle.grammar.specs.PlaceForm as placed
 use Rattle.grammar.proofs.StrictFormLaws.{family_known, call_answers, answers_call, gives_form}

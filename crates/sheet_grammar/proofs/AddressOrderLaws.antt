@@ -78,6 +78,7 @@ total (V6 hi lo) (V6 i k) = elim (dec_le hi i) [
 ]
 
 pub antisymmetric : {a b : Address} → NotAfter a b → NotAfter b a → a ≡ b
+antisymmetric ipv4_first h = elim h [ ]
 antisymmetric (both_ipv4 h) (both_ipv4 g) = ap V4 (omega arith)
 antisymmetric (upper_below h) (upper_below g) = absurd (omega arith)
 antisymmetric (upper_below h) (upper_equal e g) = absurd (omega arith)

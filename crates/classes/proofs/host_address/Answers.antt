@@ -1,3 +1,4 @@
+-- `classes::host_address` meets its contract. Assumes nothing.
 use borrow.Author.Tests.{lt-ltb, le-ltb}
 use Rattle.address.specs.Answers.{refusal}
 use Rattle.classes.proofs.host_address.Goals as goal

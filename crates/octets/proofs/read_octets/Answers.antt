@@ -1,3 +1,4 @@
+-- `octets::read_octets` meets its contract. Assumes nothing.
 use Rattle.octets.proofs.OctetLaws.{read_4, read_6, read_other}
 use Rattle.octets.proofs.read_octets.Goals as goal
 

@@ -1,0 +1,16 @@
+-- `nibharrow::put_reading` meets its contract. Assumes nothing.
+use mathlib.Core.Path.{refl, ◌∙◌}
+use Rattle.nibharrow.specs.Interface.{address_into}
+use Rattle.nibharrow.proofs.InterfaceLaws.{both, wrote, reading_given, reading_refused}
+use Rattle.nibharrow.proofs.put_reading.Goals as goal
+
+pub returns-in-Read : goal.returns-in-Read
+unfolding address_into
+returns-in-Read c =
+    wrote _ _ _ c.as_written.ensures c.write_octets.ensures
+    ∙ reading_given _ _ _ _ refl c.in-Read.a c.in-Read.is
+
+pub returns-in-Refused : goal.returns-in-Refused
+unfolding address_into
+returns-in-Refused c =
+    both c.refused.ensures refl ∙ reading_refused _ _ _ _ refl c.in-Refused.e c.in-Refused.is
