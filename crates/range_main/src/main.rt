@@ -10,8 +10,8 @@ ghost use Rattle.program_io.specs.Calls.{Filled};
 ghost use Rattle.range_main.specs.Runs.{Within, OrUnwritten, AnswersPiece, AnswersEnd, AfterRead, Turns, end_of, is_more, Finished, status_of, stops_at};
 
 use program_io::{
-    Digit, Got, Streams, answered, argument, brought, is_dash, no_error, path_text, put_trouble,
-    put_reason, single_digit, write_text,
+    Digit, Got, Streams, answered, argument, brought, is_dash, no_error, path_text, put_reason,
+    put_trouble, single_digit, write_text,
 };
 use range_lines::{Fed, Reader, feed, finish, is_begun, start};
 use std::env::{Env, FillError};
@@ -412,14 +412,12 @@ fn answer_files<R: Env + fs::Files>(rt: &R, streams: Streams, count: usize, expl
 // How many arguments the program was started with, its own name among them.
 fn argument_count(env: &impl Env) -> usize {
     let mut text = [0u8; 1];
-    let mut count: usize = 0;
-    while count < usize::MAX {
+    for count in 0..usize::MAX {
         if let Err(FillError::NotPresent) = env.arg(count, &mut text) {
             return count;
         }
-        count += 1;
     }
-    count
+    usize::MAX
 }
 
 // Whether the second argument asks for notes.
@@ -441,7 +439,7 @@ const NOT_OPEN_FOR_WRITING: i32 = 9;
 
 fn open_descriptor<R: fs::Files>(rt: &R, fd: u8) -> Result<R::File> {
     let mut path = *b"/proc/self/fd/0";
-    path[14] += fd;
+    path[14] = 48 + fd % 10;
     let path = path_text(&path)?;
     // the link's own permissions say how the descriptor is open
     let link = fs::symlink_metadata(rt, path)?;

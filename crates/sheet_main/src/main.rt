@@ -421,7 +421,7 @@ const NOT_OPEN_FOR_WRITING: i32 = 9;
 
 fn open_descriptor<R: fs::Files>(rt: &R, fd: u8) -> Result<R::File> {
     let mut path = *b"/proc/self/fd/0";
-    path[14] += fd;
+    path[14] = 48 + fd % 10;
     let path = path_text(&path)?;
     // the link's own permissions say how the descriptor is open
     let link = fs::symlink_metadata(rt, path)?;
