@@ -18,12 +18,14 @@ const ENAMETOOLONG: i32 = 36;
 
 const EILSEQ: i32 = 84;
 
-// The program's standard input, output and error. None of them has a buffer.
+// The program's standard input, output and error, none of which has a buffer, and whether what it wrote had no reader any more. The runtime
+// ignores the signal that would have ended the program then, so that it ends by itself, and whoever runs it is told.
 #[derive(Clone, Copy)]
 pub struct Streams {
     pub input: Stdin,
     pub output: Stdout,
     pub error: Stderr,
+    pub broken: bool,
 }
 
 // What the system answered to a call: how many bytes it moved, or -1 where it failed, whether it was interrupted, and why it failed.

@@ -2,7 +2,7 @@
 //
 // range_main [STATUS [EXPLAIN [FILE ..]]]: the files in turn, or standard input; a FILE that is `-` is standard input. Where EXPLAIN is `-e` each
 // refused line is told on standard error. Where STATUS is a digit the program ends by writing its status, a digit, to that descriptor: the
-// language gives it no other way to tell it.
+// language gives it no other way to tell it. A `p` behind the digit says that nobody reads what the program writes any more.
 #![tactic(auto)]
 
 ghost use Rattle.std.specs.Prelude.{◌≡◌, false, cond, ◌||◌, ◌+◌, ◌≤◌, ◌<◌, max, length};
@@ -17,7 +17,7 @@ use range_lines::{Fed, Reader, feed, finish, is_begun, start};
 use std::env::{Env, FillError};
 use std::fs;
 use std::fs::{File, OpenOptions};
-use std::io::{Error, Read, Result};
+use std::io::{Error, ErrorKind, Read, Result, Write};
 
 // How far an input is: there is more, or it has ended, or it could not be read, or the answers could not be written.
 #[derive(Clone, Copy)]
@@ -69,12 +69,25 @@ struct Files {
 }
 
 // Tells on standard error what failed, with the system's words.
-fn tell(streams: Streams, what: &[u8], why: Error) {
+fn tell(streams: &mut Streams, what: &[u8], why: Error) {
     let mut line = [0u8; 4200];
     let named = put_trouble(&mut line, what);
     let end = put_reason(&mut line, named, why);
-    let mut error = streams.error;
-    write_text(&mut error, &line[..end]);
+    write_text(&mut streams.error, &line[..end]);
+}
+
+// Whether a write failed since nobody reads any more.
+fn is_broken(why: Error) -> bool {
+    why.kind() == ErrorKind::BrokenPipe
+}
+
+// Tells that the answers could not be written, if not because nobody reads them any more: that is told by whoever runs the program.
+fn tell_unwritten(streams: &mut Streams, why: Error) {
+    if is_broken(why) {
+        streams.broken = true;
+        return;
+    }
+    tell(streams, b"write error", why);
 }
 
 // The input could not be read, or the answers could not be written.
@@ -92,20 +105,22 @@ fn failed(run: Run, end: End) -> Run
 }
 
 // Writes what a call has put, and answers whether all of it is written.
-fn write_answers(streams: Streams, fed: Fed, out: &[u8], notes: &[u8]) -> bool
+fn write_answers(streams: &mut Streams, fed: Fed, out: &[u8], notes: &[u8]) -> bool
     requires { (fed.next ≤ length out.now) × (fed.noted ≤ length notes.now) }
 {
     let next = fed.next;
     let noted = fed.noted;
-    let mut output = streams.output;
-    let answers = write_text(&mut output, &out[..next]);
+    let answers = write_text(&mut streams.output, &out[..next]);
     if 0 < answers.left {
-        tell(streams, b"write error", answers.why);
+        tell_unwritten(streams, answers.why);
         return false;
     }
-    let mut error = streams.error;
-    let told = write_text(&mut error, &notes[..noted]);
-    told.left == 0
+    let told = write_text(&mut streams.error, &notes[..noted]);
+    if 0 < told.left {
+        streams.broken = is_broken(told.why);
+        return false;
+    }
+    true
 }
 
 // Whether a line was refused before, or now.
@@ -120,7 +135,7 @@ fn either(a: bool, b: bool) -> bool
 
 // Answers the bytes that are read and not taken yet, as far as the buffers have room for the answers.
 fn answer_piece(
-    streams: Streams,
+    streams: &mut Streams,
     run: Run,
     input: &[u8],
     explain: bool,
@@ -160,7 +175,7 @@ fn end_of(reader: Reader) -> End
 
 // Answers a last line without its newline.
 fn answer_end(
-    streams: Streams,
+    streams: &mut Streams,
     run: Run,
     explain: bool,
     name: &[u8],
@@ -187,7 +202,7 @@ fn answer_end(
 
 // Answers what a read has brought.
 fn after_read(
-    streams: Streams,
+    streams: &mut Streams,
     run: Run,
     got: Got,
     why: Error,
@@ -226,7 +241,7 @@ fn after_read(
 // One turn: reads a piece where nothing is left of the last one, answers it, and writes the answers.
 fn turn<R: Read>(
     from: &mut R,
-    streams: Streams,
+    streams: &mut Streams,
     run: Run,
     input: &mut [u8],
     explain: bool,
@@ -261,7 +276,7 @@ fn goes_on(end: End) -> bool
 
 // Reads, answers and writes, turn after turn, until there is no more. Nothing says that an input ends, so the turns are counted, up to a number
 // that no run reaches.
-fn answer_all<R: Read>(from: &mut R, streams: Streams, explain: bool, name: &[u8]) -> Outcome
+fn answer_all<R: Read>(from: &mut R, streams: &mut Streams, explain: bool, name: &[u8]) -> Outcome
     ensures { Finished result }
 {
     let mut input = [0u8; 65536];
@@ -308,7 +323,7 @@ fn refused_status(refused: bool) -> u8
 }
 
 // The status of an input. Where the answers could not be written nothing more is to be read.
-fn judge(streams: Streams, outcome: Outcome, name: &[u8]) -> Verdict
+fn judge(streams: &mut Streams, outcome: Outcome, name: &[u8]) -> Verdict
     ensures { (result.status ≡ status_of outcome.end outcome.refused) × (result.stop ≡ stops_at outcome.end) }
 {
     let end = outcome.end;
@@ -335,12 +350,17 @@ fn judge(streams: Streams, outcome: Outcome, name: &[u8]) -> Verdict
     }
 }
 
-fn answer_input<R: Read>(from: &mut R, streams: Streams, explain: bool, name: &[u8]) -> Verdict {
+fn answer_input<R: Read>(
+    from: &mut R,
+    streams: &mut Streams,
+    explain: bool,
+    name: &[u8],
+) -> Verdict {
     let outcome = answer_all(from, streams, explain, name);
     judge(streams, outcome, name)
 }
 
-fn answer_standard_input(streams: Streams, explain: bool) -> Verdict {
+fn answer_standard_input(streams: &mut Streams, explain: bool) -> Verdict {
     let mut input = streams.input;
     answer_input(&mut input, streams, explain, b"(standard input)")
 }
@@ -350,7 +370,7 @@ fn open_read<R: fs::Files>(rt: &R, path: &[u8]) -> Result<R::File> {
 }
 
 // An input that could not be opened.
-fn unopened(streams: Streams, name: &[u8], why: Error) -> Verdict {
+fn unopened(streams: &mut Streams, name: &[u8], why: Error) -> Verdict {
     tell(streams, name, why);
     Verdict {
         status: 2,
@@ -359,7 +379,12 @@ fn unopened(streams: Streams, name: &[u8], why: Error) -> Verdict {
 }
 
 // The file that the argument names.
-fn answer_file<R: Env + fs::Files>(rt: &R, streams: Streams, i: usize, explain: bool) -> Verdict {
+fn answer_file<R: Env + fs::Files>(
+    rt: &R,
+    streams: &mut Streams,
+    i: usize,
+    explain: bool,
+) -> Verdict {
     let mut path = [0u8; 4096];
     let n = match argument(rt, i, &mut path) {
         Ok(n) => n,
@@ -391,7 +416,12 @@ fn counted(tally: Tally, verdict: Verdict) -> Tally
 }
 
 // The files that the arguments from the third on name, in turn. They are all answered, unless the program is to stop.
-fn answer_files<R: Env + fs::Files>(rt: &R, streams: Streams, count: usize, explain: bool) -> Files
+fn answer_files<R: Env + fs::Files>(
+    rt: &R,
+    streams: &mut Streams,
+    count: usize,
+    explain: bool,
+) -> Files
     ensures { result.tally.stop ≡ false → 3 ≤ count → result.next ≡ count }
 {
     let mut tally = Tally {
@@ -449,45 +479,48 @@ fn open_descriptor<R: fs::Files>(rt: &R, fd: u8) -> Result<R::File> {
     OpenOptions::new().append(true).open(rt, path)
 }
 
+// Writes a status as a digit, and a `p` behind it, as in pipe, where nobody reads what the program writes any more.
+fn write_digit<W: Write>(to: &mut W, status: u8, broken: bool) {
+    write_text(to, &[48 + status % 10]);
+    if broken {
+        write_text(to, b"p");
+    }
+}
+
 // Writes the status to the descriptor that the first argument names by a digit.
-fn write_status<R: Env + fs::Files>(rt: &R, streams: Streams, status: u8) {
+fn write_status<R: Env + fs::Files>(rt: &R, streams: &mut Streams, status: u8) {
     let mut text = [0u8; 4096];
     let n = argument(rt, 1, &mut text).unwrap_or(0);
     let Digit::Is(fd) = single_digit(&text[..n]) else {
         return;
     };
-    let digit = [48 + status % 10];
+    let broken = streams.broken;
     match fd {
-        1 => {
-            let mut output = streams.output;
-            write_text(&mut output, &digit);
-        }
-        2 => {
-            let mut error = streams.error;
-            write_text(&mut error, &digit);
-        }
+        1 => write_digit(&mut streams.output, status, broken),
+        2 => write_digit(&mut streams.error, status, broken),
         _ => {
             if let Ok(mut file) = open_descriptor(rt, fd) {
-                write_text(&mut file, &digit);
+                write_digit(&mut file, status, broken);
             }
         }
     }
 }
 
 fn main(rt: HostRuntime) {
-    let streams = Streams {
+    let mut streams = Streams {
         input: rt.stdin(),
         output: rt.stdout(),
         error: rt.stderr(),
+        broken: false,
     };
     let count = argument_count(&rt);
     let explain = wants_notes(&rt);
     if count <= 3 {
-        let verdict = answer_standard_input(streams, explain);
-        write_status(&rt, streams, verdict.status);
+        let verdict = answer_standard_input(&mut streams, explain);
+        write_status(&rt, &mut streams, verdict.status);
         return;
     }
-    let files = answer_files(&rt, streams, count, explain);
+    let files = answer_files(&rt, &mut streams, count, explain);
     let tally = files.tally;
-    write_status(&rt, streams, tally.status);
+    write_status(&rt, &mut streams, tally.status);
 }

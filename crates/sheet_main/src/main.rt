@@ -2,7 +2,8 @@
 //
 // sheet_main [STATUS [OPTIONS [FILE]]]: the file, or standard input where there is none or it is `-`. OPTIONS is `-` and then any of the letters s,
 // the lines are sorted, and e, a refused sheet is told with its line and the reason. Where STATUS is a digit the program ends by writing its status, a
-// digit, to that descriptor: the language gives it no other way to tell it.
+// digit, to that descriptor: the language gives it no other way to tell it. A `p` behind the digit says that nobody reads what the program writes any
+// more.
 #![tactic(auto)]
 
 ghost use Rattle.std.specs.Prelude.{◌≡◌, cond, ◌+◌, ◌-◌, ◌≤◌, ltb, length};
@@ -14,14 +15,14 @@ use address::Writing;
 use digits::read::find;
 use program_io::{
     Digit, Got, Sent, Streams, answered, argument, brought, is_dash, no_error, path_text,
-    put_trouble, put_reason, single_digit, write_text,
+    put_reason, put_trouble, single_digit, write_text,
 };
 use sheet::respell;
 use sheet_notes::put_refused;
 use std::env::{Env, FillError};
 use std::fs;
 use std::fs::{File, OpenOptions};
-use std::io::{Error, Read, Result};
+use std::io::{Error, ErrorKind, Read, Result, Write};
 
 // How far an input is: there may be more, or it has ended, or it is longer than a sheet may be, or it could not be read.
 #[derive(Clone, Copy)]
@@ -79,12 +80,25 @@ struct Options {
 }
 
 // Tells on standard error what failed, with the system's words.
-fn tell(streams: Streams, what: &[u8], why: Error) {
+fn tell(streams: &mut Streams, what: &[u8], why: Error) {
     let mut line = [0u8; 4200];
     let named = put_trouble(&mut line, what);
     let end = put_reason(&mut line, named, why);
-    let mut error = streams.error;
-    write_text(&mut error, &line[..end]);
+    write_text(&mut streams.error, &line[..end]);
+}
+
+// Whether a write failed since nobody reads any more.
+fn is_broken(why: Error) -> bool {
+    why.kind() == ErrorKind::BrokenPipe
+}
+
+// Tells that the answers could not be written, if not because nobody reads them any more: that is told by whoever runs the program.
+fn tell_unwritten(streams: &mut Streams, why: Error) {
+    if is_broken(why) {
+        streams.broken = true;
+        return;
+    }
+    tell(streams, b"write error", why);
 }
 
 // ---- read
@@ -106,7 +120,7 @@ fn reach(len: usize) -> Run
 }
 
 // What a read has brought stands behind what was read before. A read that failed is told, and is not the end.
-fn after_read(streams: Streams, run: Run, got: Got, why: Error, name: &[u8]) -> Run
+fn after_read(streams: &mut Streams, run: Run, got: Got, why: Error, name: &[u8]) -> Run
     requires { (run.len ≤ 65537) × Filled (65537 - run.len) got }
     ensures { result ≡ after_read run got }
 {
@@ -132,7 +146,13 @@ fn after_read(streams: Streams, run: Run, got: Got, why: Error, name: &[u8]) -> 
 }
 
 // One turn: reads behind the bytes that are there.
-fn turn<R: Read>(from: &mut R, streams: Streams, run: Run, input: &mut [u8], name: &[u8]) -> Run
+fn turn<R: Read>(
+    from: &mut R,
+    streams: &mut Streams,
+    run: Run,
+    input: &mut [u8],
+    name: &[u8],
+) -> Run
     requires { (run.len ≤ 65537) × (length input.old ≡ 65537) }
     ensures { Turns run input.old input.new result }
 {
@@ -167,7 +187,7 @@ fn is_whole(end: End) -> bool
 }
 
 // Reads, turn after turn, until there is no more. Nothing says that an input ends, so the turns are counted, up to a number that no run reaches.
-fn read_all<R: Read>(from: &mut R, streams: Streams, input: &mut [u8], name: &[u8]) -> Outcome
+fn read_all<R: Read>(from: &mut R, streams: &mut Streams, input: &mut [u8], name: &[u8]) -> Outcome
     requires { length input.old ≡ 65537 }
     ensures { Reads result.turns result.run input.new }
 {
@@ -221,24 +241,25 @@ fn put_reply(
 }
 
 // Writes it. Each byte was taken by a call, or is left.
-fn write_reply(streams: Streams, reply: Reply, out: &[u8], note: &[u8]) -> Sent
+fn write_reply(streams: &mut Streams, reply: Reply, out: &[u8], note: &[u8]) -> Sent
     requires { (reply.written ≤ length out.now) × (reply.noted ≤ length note.now) × (reply.written + reply.noted ≤ 65536) }
     ensures { result.moved + result.left ≡ reply.written + reply.noted }
 {
     let written = reply.written;
     let noted = reply.noted;
-    let mut output = streams.output;
-    let answer = write_text(&mut output, &out[..written]);
+    let answer = write_text(&mut streams.output, &out[..written]);
     if 0 < answer.left {
-        tell(streams, b"write error", answer.why);
+        tell_unwritten(streams, answer.why);
         return Sent {
             moved: answer.moved,
             left: answer.left + noted,
             why: answer.why,
         };
     }
-    let mut error = streams.error;
-    let told = write_text(&mut error, &note[..noted]);
+    let told = write_text(&mut streams.error, &note[..noted]);
+    if 0 < told.left {
+        streams.broken = is_broken(told.why);
+    }
     Sent {
         moved: answer.moved + told.moved,
         left: answer.left + told.left,
@@ -248,7 +269,7 @@ fn write_reply(streams: Streams, reply: Reply, out: &[u8], note: &[u8]) -> Sent
 
 // Answers a sheet.
 fn answer_sheet(
-    streams: Streams,
+    streams: &mut Streams,
     sheet: &[u8],
     sorted: bool,
     explain: bool,
@@ -269,7 +290,13 @@ fn answer_sheet(
 }
 
 // Answers what was read, if that tells the answer: a part of a sheet is not answered.
-fn answer_run(streams: Streams, run: Run, input: &[u8], options: Options, name: &[u8]) -> Answered
+fn answer_run(
+    streams: &mut Streams,
+    run: Run,
+    input: &[u8],
+    options: Options,
+    name: &[u8],
+) -> Answered
     requires { (run.len ≤ length input.now) × (length name.now ≤ 4096) }
     ensures { AnswersRun options.sorted options.explain name.now run input.now result }
 {
@@ -307,7 +334,7 @@ fn answered_status(refused: bool, left: usize) -> u8
 }
 
 // The status of an input, however it was read.
-fn judge(streams: Streams, end: End, answered: Answered, name: &[u8]) -> u8
+fn judge(streams: &mut Streams, end: End, answered: Answered, name: &[u8]) -> u8
     ensures { result ≡ status_of end answered.refused answered.left }
 {
     match end {
@@ -324,7 +351,7 @@ fn judge(streams: Streams, end: End, answered: Answered, name: &[u8]) -> u8
 // Reads an input and answers it.
 fn answer_read<R: Read>(
     from: &mut R,
-    streams: Streams,
+    streams: &mut Streams,
     options: Options,
     name: &[u8],
     input: &mut [u8],
@@ -347,7 +374,7 @@ fn answer_read<R: Read>(
 }
 
 // The status of an input.
-fn answer_input<R: Read>(from: &mut R, streams: Streams, options: Options, name: &[u8]) -> u8
+fn answer_input<R: Read>(from: &mut R, streams: &mut Streams, options: Options, name: &[u8]) -> u8
     requires { length name.now ≤ 4096 }
 {
     let mut input = [0u8; 65537];
@@ -355,7 +382,7 @@ fn answer_input<R: Read>(from: &mut R, streams: Streams, options: Options, name:
     answer.status
 }
 
-fn answer_standard_input(streams: Streams, options: Options) -> u8 {
+fn answer_standard_input(streams: &mut Streams, options: Options) -> u8 {
     let mut input = streams.input;
     answer_input(&mut input, streams, options, b"(standard input)")
 }
@@ -365,13 +392,13 @@ fn open_read<R: fs::Files>(rt: &R, path: &[u8]) -> Result<R::File> {
 }
 
 // An input that could not be opened.
-fn unopened(streams: Streams, name: &[u8], why: Error) -> u8 {
+fn unopened(streams: &mut Streams, name: &[u8], why: Error) -> u8 {
     tell(streams, name, why);
     2
 }
 
 // The file that the third argument names.
-fn answer_file<R: Env + fs::Files>(rt: &R, streams: Streams, options: Options) -> u8 {
+fn answer_file<R: Env + fs::Files>(rt: &R, streams: &mut Streams, options: Options) -> u8 {
     let mut path = [0u8; 4096];
     let n = match argument(rt, 3, &mut path) {
         Ok(n) => n,
@@ -431,42 +458,49 @@ fn open_descriptor<R: fs::Files>(rt: &R, fd: u8) -> Result<R::File> {
     OpenOptions::new().append(true).open(rt, path)
 }
 
+// Writes a status as a digit, and a `p` behind it, as in pipe, where nobody reads what the program writes any more.
+fn write_digit<W: Write>(to: &mut W, status: u8, broken: bool) {
+    write_text(to, &[48 + status % 10]);
+    if broken {
+        write_text(to, b"p");
+    }
+}
+
 // Writes the status to the descriptor that the first argument names by a digit.
-fn write_status<R: Env + fs::Files>(rt: &R, streams: Streams, status: u8) {
+fn write_status<R: Env + fs::Files>(rt: &R, streams: &mut Streams, status: u8) {
     let mut text = [0u8; 4096];
     let n = argument(rt, 1, &mut text).unwrap_or(0);
     let Digit::Is(fd) = single_digit(&text[..n]) else {
         return;
     };
-    let digit = [48 + status % 10];
+    let broken = streams.broken;
     match fd {
-        1 => {
-            let mut output = streams.output;
-            write_text(&mut output, &digit);
-        }
-        2 => {
-            let mut error = streams.error;
-            write_text(&mut error, &digit);
-        }
+        1 => write_digit(&mut streams.output, status, broken),
+        2 => write_digit(&mut streams.error, status, broken),
         _ => {
             if let Ok(mut file) = open_descriptor(rt, fd) {
-                write_text(&mut file, &digit);
+                write_digit(&mut file, status, broken);
             }
         }
     }
 }
 
 fn main(rt: HostRuntime) {
-    let streams = Streams {
+    let mut streams = Streams {
         input: rt.stdin(),
         output: rt.stdout(),
         error: rt.stderr(),
+        broken: false,
     };
     let options = read_options(&rt);
     if !has_argument(&rt, 3) {
-        write_status(&rt, streams, answer_standard_input(streams, options));
+        write_status(
+            &rt,
+            &mut streams,
+            answer_standard_input(&mut streams, options),
+        );
         return;
     }
-    let status = answer_file(&rt, streams, options);
-    write_status(&rt, streams, status);
+    let status = answer_file(&rt, &mut streams, options);
+    write_status(&rt, &mut streams, status);
 }
