@@ -494,11 +494,8 @@ fn main(rt: HostRuntime) {
     };
     let options = read_options(&rt);
     if !has_argument(&rt, 3) {
-        write_status(
-            &rt,
-            &mut streams,
-            answer_standard_input(&mut streams, options),
-        );
+        let status = answer_standard_input(&mut streams, options);
+        write_status(&rt, &mut streams, status);
         return;
     }
     let status = answer_file(&rt, &mut streams, options);
