@@ -1,12 +1,12 @@
 -- The tests of the code: whether there is room, whether a line is told, and whether one was refused. Assumes nothing.
 use mathlib.Core.Path.{◌≡◌, refl, sym, ◌∙◌}
-use mathlib.Core.Bool.{Bool, true, false, ◌||◌}
+use mathlib.Core.Bool.{Bool, true, false, not, ◌||◌}
 use mathlib.Core.List.{List, []}
 use Prim.Native.Nat.{ℕ, ◌+◌, ◌-◌, ◌≤◌, ◌<◌}
 use native.Mathlib.Decide.{dec_le}
 use native.Mathlib.Omega.{arith}
 use borrow.Author.Tests.{le-leb, lt-leb, eq-eqb, ne_eqb}
-use lib.Dec.{leb}
+use lib.Dec.{leb, eqb}
 use lib.ListN.{length}
 use Rattle.notes.specs.Notes.{note_text}
 use Rattle.range_lines.specs.Lines.{told_of}
@@ -53,6 +53,14 @@ module _ (name : List ℕ) (k n : ℕ) where
   a_note e z = rw (e, ne_eqb n 0 (omega arith))
 
 -- ---- refused
+
+pub not_refused : (before : Bool) (n : ℕ) → n ≤ 0 → before ≡ (before || not (eqb n 0))
+not_refused true n z = refl
+not_refused false n z = rw (eq-eqb n 0 (omega arith))
+
+pub now_refused : (before : Bool) (n : ℕ) → 0 < n → true ≡ (before || not (eqb n 0))
+now_refused true n z = refl
+now_refused false n z = rw (ne_eqb n 0 (omega arith))
 
 pub or_none : (a b : Bool) → b ≡ false → a ≡ (a || b)
 or_none true b e = refl
