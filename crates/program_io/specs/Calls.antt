@@ -1,6 +1,6 @@
 -- What the programs make of the answers of the system. Assumes nothing.
-use Rattle.std.specs.Prelude.{◌≡◌, ◌↔◌, Bool, true, false, cond, not, IsTrue, List, [], ◌∷◌, ◌++◌, ℕ, ◌-◌, ◌≤◌, eqb, ltb, min, ℤ, pos, negsuc, Result, Ok, Err}
-use Rattle.std.specs.IoError.{error_kind}
+use Rattle.std.specs.Prelude.{◌≡◌, ◌↔◌, Bool, true, false, cond, not, IsTrue, List, [], ◌∷◌, ◌++◌, ℕ, ◌-◌, ◌≤◌, eqb, ltb, min, ℤ, pos, negsuc, Some, Result, Ok, Err}
+use Rattle.std.specs.IoError.{error_kind, raw_os_error}
 use Rattle.std.specs.Int.Signed.{non_neg}
 use Rattle.std.specs.declared.io.Error.{Error}
 use Rattle.std.specs.declared.io.ErrorKind.TheVariants.{Interrupted}
@@ -12,10 +12,11 @@ use Rattle.program_io.specs.declared.Got.TheVariants.{Bytes, Again, Failed}
 use Rattle.program_io.specs.declared.Digit.{Digit}
 use Rattle.program_io.specs.declared.Digit.TheVariants.{Is, NoDigit}
 
--- What a call answered in std's form, as the system has it: so many bytes, or -1 and whether it was interrupted (POSIX, errno).
+-- What a call answered in std's form, as the system has it: so many bytes and no failure, or -1, whether it was interrupted, and why it failed
+-- (POSIX, errno). The system knows no more bytes than a signed number of 64 bits has.
 abbrev pub IsCall : Result ℕ Error → Call → Type 0
-IsCall (Ok n) call = (call.got ≡ pos n) × (call.interrupted ≡ false)
-IsCall (Err e) call = (call.got ≡ negsuc 0) × (IsTrue call.interrupted ↔ (error_kind e ≡ Interrupted))
+IsCall (Ok n) call = (call.got ≡ pos (min n 9223372036854775807)) × (call.interrupted ≡ false) × (raw_os_error call.why ≡ Some (pos 0))
+IsCall (Err e) call = (call.got ≡ negsuc 0) × (IsTrue call.interrupted ↔ (error_kind e ≡ Interrupted)) × (call.why ≡ e)
 
 -- what a call answered, brought into `0..=most`
 abbrev pub clamp_len : ℤ → ℕ → ℕ

@@ -1,7 +1,7 @@
 // What the programs do with the answers of the system: what a read has brought, a text written, what is told of a failure, and their arguments.
 #![tactic(auto)]
 
-ghost use Rattle.std.specs.Prelude.{◌≡◌, ◌+◌, ◌<◌, ◌≤◌, ◌^◌, Some, pos, IfOk, length};
+ghost use Rattle.std.specs.Prelude.{◌≡◌, ◌+◌, ◌≤◌, min, Some, pos, IfOk, length};
 ghost use Rattle.std.specs.IoError.{raw_os_error};
 ghost use Rattle.std.specs.Io.{WritesAtMost};
 ghost use Rattle.output.specs.Placing.{Puts};
@@ -96,14 +96,23 @@ pub fn no_error() -> Error
     Error::from_raw_os_error(0)
 }
 
+// A number of bytes as the system answers it, which knows no larger ones.
+fn signed(n: usize) -> isize
+    ensures { result ≡ pos (min n 9223372036854775807) }
+{
+    if n < 9223372036854775807 {
+        return n as isize;
+    }
+    9223372036854775807
+}
+
 // What the system answered to a call, whose answer std has in another form.
 pub fn answered(answer: Result<usize>) -> Call
-    requires { IfOk answer (λ n. n < 2 ^ 63) }
     ensures { IsCall answer result }
 {
     match answer {
         Ok(n) => Call {
-            got: n as isize,
+            got: signed(n),
             interrupted: false,
             why: no_error(),
         },
