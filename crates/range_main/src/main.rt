@@ -68,12 +68,15 @@ struct Files {
     next: usize,
 }
 
-// Tells on standard error what failed, with the system's words.
+// Tells on standard error what failed, with the system's words. Where nobody reads that any more, the program is to end.
 fn tell(streams: &mut Streams, what: &[u8], why: Error) {
     let mut line = [0u8; 4200];
     let named = put_trouble(&mut line, what);
     let end = put_reason(&mut line, named, why);
-    write_text(&mut streams.error, &line[..end]);
+    let told = write_text(&mut streams.error, &line[..end]);
+    if is_broken(told.why) {
+        streams.broken = true;
+    }
 }
 
 // Whether a write failed since nobody reads any more.
@@ -357,7 +360,14 @@ fn answer_input<R: Read>(
     name: &[u8],
 ) -> Verdict {
     let outcome = answer_all(from, streams, explain, name);
-    judge(streams, outcome, name)
+    let verdict = judge(streams, outcome, name);
+    if streams.broken {
+        return Verdict {
+            status: verdict.status,
+            stop: true,
+        };
+    }
+    verdict
 }
 
 fn answer_standard_input(streams: &mut Streams, explain: bool) -> Verdict {
@@ -374,7 +384,7 @@ fn unopened(streams: &mut Streams, name: &[u8], why: Error) -> Verdict {
     tell(streams, name, why);
     Verdict {
         status: 2,
-        stop: false,
+        stop: streams.broken,
     }
 }
 

@@ -79,12 +79,15 @@ struct Options {
     explain: bool,
 }
 
-// Tells on standard error what failed, with the system's words.
+// Tells on standard error what failed, with the system's words. Where nobody reads that any more, the program is to end.
 fn tell(streams: &mut Streams, what: &[u8], why: Error) {
     let mut line = [0u8; 4200];
     let named = put_trouble(&mut line, what);
     let end = put_reason(&mut line, named, why);
-    write_text(&mut streams.error, &line[..end]);
+    let told = write_text(&mut streams.error, &line[..end]);
+    if is_broken(told.why) {
+        streams.broken = true;
+    }
 }
 
 // Whether a write failed since nobody reads any more.
