@@ -51,6 +51,15 @@ impl Ended {
     }
 }
 
+/// A folder of a test that passed goes: rt takes no `crates.txt` below that of the project.
+impl Drop for Scratch {
+    fn drop(&mut self) {
+        if !std::thread::panicking() {
+            let _ = fs::remove_dir_all(&self.0);
+        }
+    }
+}
+
 impl Scratch {
     /// The folder of that name, empty.
     pub fn new(name: &str) -> Self {
