@@ -21,7 +21,7 @@ pub const LONGEST_SHEET: usize = 65_536;
 /// too, and [`Malformed`](Refusal::Malformed) where a line is not of that form, as that last one is
 /// not.
 ///
-/// A call takes up to about 123 KiB of stack, and nearly as much for a short sheet that is sorted.
+/// A call takes up to about 87 KiB of stack, and as much for a short sheet.
 ///
 /// ```
 /// use nibharrow::{respell, Refusal};

@@ -7,7 +7,7 @@ use Prim.Native.Nat.{ℕ, ◌≤◌, ◌<◌}
 use native.Mathlib.Decide.{dec_lt, ℕ_discrete}
 use native.Mathlib.Omega.{arith}
 use borrow.Author.Tests.{lt-ltb, le-ltb, ne_eqb}
-use lib.Dec.{eqb, lit<}
+use lib.Dec.{eqb, lit<, lit≤}
 use lib.ListN.{length, take, drop, length-append, length-drop}
 use lib.Seq.{take_at, drop_at}
 use Rattle.address.specs.declared.Refusal.{Refusal}
@@ -27,6 +27,18 @@ number_pos HostTooLarge = lit< tt
 number_pos FirstAboveLast = lit< tt
 number_pos WrongFamily = lit< tt
 number_pos TooMany = lit< tt
+
+pub number_most : (e : Refusal) → refusal_number e ≤ 10
+number_most TextTooLong = lit≤ tt
+number_most Malformed = lit≤ tt
+number_most NoRoom = lit≤ tt
+number_most LengthTooLarge = lit≤ tt
+number_most BitsBeyondLength = lit≤ tt
+number_most NoClass = lit≤ tt
+number_most HostTooLarge = lit≤ tt
+number_most FirstAboveLast = lit≤ tt
+number_most WrongFamily = lit≤ tt
+number_most TooMany = lit≤ tt
 
 pub nonzero : (e : Refusal) → eqb (refusal_number e) 0 ≡ false
 nonzero e = ne_eqb (refusal_number e) 0 (let pos = number_pos e in omega arith)

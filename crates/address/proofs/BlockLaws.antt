@@ -1,7 +1,7 @@
 -- A block's refusal told by tests, and what readers of a block answer by it. Assumes nothing.
+use Rattle.std.specs.Prelude.{Some}
 use mathlib.Core.Path.{◌≡◌, sym, ap, ◌∙◌}
 use mathlib.Core.Bool.{true, false, false≢true}
-use mathlib.Core.Option.{some}
 use Prim.Native.Nat.{◌-◌, ◌%◌, ◌^◌, ◌≤◌, ◌<◌}
 use native.Mathlib.Omega.{arith}
 use borrow.Author.Tests.{lt-ltb, le-ltb}
@@ -37,10 +37,10 @@ block_not_3 b e =
 -- ---- answers of readers of a block
 
 module _ (b : Block) where
-  pub read_valid : block_refusal b ≡ 0 → gives b ≡ read_answer precedence no_block (block_reasons b) (some b)
+  pub read_valid : block_refusal b ≡ 0 → gives b ≡ read_answer precedence no_block (block_reasons b) (Some b)
   unfolding block_refusal read_answer
   read_valid h = answer_gives no_block b _ h
 
-  pub read_refused : (e : Refusal) → refusal_number e ≡ block_refusal b → refuses no_block e ≡ read_answer precedence no_block (block_reasons b) (some b)
+  pub read_refused : (e : Refusal) → refusal_number e ≡ block_refusal b → refuses no_block e ≡ read_answer precedence no_block (block_reasons b) (Some b)
   unfolding block_refusal read_answer
   read_refused e h = answer_refuses no_block b _ e h

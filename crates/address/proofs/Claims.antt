@@ -1,4 +1,7 @@
 -- What is claimed of answers, addresses and blocks. Assumes nothing.
+use Rattle.std.specs.Prelude.{Ok, Err, Result, Some, None}
+use Rattle.std.specs.Ordering.{partial_lt}
+use Rattle.std.specs.declared.cmp.Ordering.TheVariants.{Less, Equal, Greater}
 use mathlib.Core.Path.{◌≡◌, refl, sym, ap, ap₂, ◌∙◌}
 use mathlib.Core.Logic.{◌⊎◌, inl, inr, ◌↔◌}
 use mathlib.Core.Bool.{Bool, true, false, and-eq-true_iff, false≢true}
@@ -16,20 +19,17 @@ use Rattle.cover.specs.Blocks.{IsBlock}
 use Rattle.address.specs.declared.Address.{Address}
 use Rattle.address.specs.declared.Address.TheVariants.{V4, V6}
 use Rattle.address.specs.declared.Block.{Block}
-use Rattle.address.specs.declared.Order.TheVariants.{Below, Same, Above, TwoFamilies}
 use Rattle.address.specs.declared.Refusal.{Refusal}
 use Rattle.address.specs.declared.Refusal.TheVariants.{TextTooLong, Malformed, NoRoom, LengthTooLarge, BitsBeyondLength, NoClass, HostTooLarge, FirstAboveLast, WrongFamily, TooMany}
-use Rattle.address.specs.declared.Reading.{Reading}
-use Rattle.address.specs.declared.Writing.{Writing}
-use Rattle.address.specs.declared.BlockReading.{BlockReading}
-use Rattle.address.specs.Answers.{Answer, Cases, given, not_given, refusal_number, first_of, holds, refusal, precedence, gives, refuses, no_address, no_block, reading_answer, writing_answer, block_answer, write_refusal, write_answer, write_leaves}
+use Rattle.address.specs.Answers.{Answer, result_answer, refusal_number, RefusalOf, first_of, holds, refusal, precedence, gives, refuses, no_address, no_block, reading_answer, writing_answer, block_answer, write_refusal, write_answer, write_leaves}
 use Rattle.address.specs.Addresses.{IsAddress, family, width, number, address_order, same_address}
 use Rattle.address.specs.Blocks.{numbered, too_long, bits_beyond, block_refusal, same_block}
-use Rattle.address.specs.declared.Reading.TheVariants as reading
-use Rattle.address.specs.declared.Writing.TheVariants as writing
-use Rattle.address.specs.declared.BlockReading.TheVariants as block
+use Rattle.address.specs.contracts.AddressPartialEq.TheImpl as equality
+use Rattle.address.specs.contracts.AddressPartialOrd.TheImpl as order
+use Rattle.address.specs.contracts.BlockPartialEq.TheImpl as block_equality
 use Rattle.address.proofs.AddressLaws.{order_exactly, width_follows}
-use Rattle.address.proofs.AnswerLaws.{number_pos}
+use Rattle.address.proofs.AddressLaws as addresses
+use Rattle.address.proofs.AnswerLaws.{number_pos, number_most}
 use Rattle.address.proofs.AnswerLaws as laws
 use Rattle.address.proofs.BlockLaws.{refusal_length, refusal_bits, refusal_neither, block_not_3}
 use Rattle.address.proofs.OrderLaws as orders
@@ -59,6 +59,11 @@ one_number e f h = sym (refusal_at e) ∙ ap (λ (n : ℕ). get_or refusals (n -
 -- And none has the number of a good answer.
 pub number_above_0 : (e : Refusal) → 0 < refusal_number e
 number_above_0 = number_pos
+
+-- What is taken for a refusal's number is that refusal; so each of 1 to 10 is taken for the one that has it.
+pub number_back : (e : Refusal) (r : Result Refusal Refusal) → RefusalOf (refusal_number e) r → r ≡ Ok e
+number_back e (Ok f) h = ap Ok (one_number f e h.2)
+number_back e (Err f) h = absurd (h.0 (number_pos e, number_most e))
 
 -- ---- the order of refusals
 
@@ -161,35 +166,21 @@ module _ {A : Type 0} where
   refuses_one : {zeros : A} (e f : Refusal) → refuses zeros e ≡ refuses zeros f → e ≡ f
   refuses_one e f h = one_number e f (ap (λ (r : Answer A). r.number) h)
 
-  module _ {R : Type 0} (value : A → R) (refused : Refusal → R) (zeros : A) (says : R → Answer A)
-      (value_says : (a : A) → says (value a) ≡ gives a) (Refused-Says : (e : Refusal) → says (refused e) ≡ refuses zeros e) where
-    -- Two answers of the code that say the same are the same.
-    pub one_answer : (r s : R) → Cases value refused r → Cases value refused s → says r ≡ says s → r ≡ s
-    one_answer _ _ (given a) (given b) h = ap value (gives_one (sym (value_says a) ∙ h ∙ value_says b))
-    one_answer _ _ (given a) (not_given f) h = absurd (gives_refuses f (sym (value_says a) ∙ h ∙ Refused-Says f))
-    one_answer _ _ (not_given e) (given b) h = absurd (gives_refuses e (sym (value_says b) ∙ sym h ∙ Refused-Says e))
-    one_answer _ _ (not_given e) (not_given f) h = ap refused (refuses_one e f (sym (Refused-Says e) ∙ h ∙ Refused-Says f))
+  -- Two answers of the code that say the same are the same.
+  pub one_answer : (zeros : A) (r s : Result A Refusal) → result_answer zeros r ≡ result_answer zeros s → r ≡ s
+  one_answer zeros (Ok a) (Ok b) h = ap Ok (gives_one h)
+  one_answer zeros (Ok a) (Err f) h = absurd (gives_refuses f h)
+  one_answer zeros (Err e) (Ok b) h = absurd (gives_refuses e (sym h))
+  one_answer zeros (Err e) (Err f) h = ap Err (refuses_one e f h)
 
-pub one_reading : (r s : Reading) → reading_answer r ≡ reading_answer s → r ≡ s
-one_reading r s = one_answer reading.Read reading.Refused no_address reading_answer (λ a. refl) (λ e. refl) r s (cases r) (cases s)
-  where
-    cases : (x : Reading) → Cases reading.Read reading.Refused x
-    cases (reading.Read a) = given a
-    cases (reading.Refused e) = not_given e
+pub one_reading : (r s : Result Address Refusal) → reading_answer r ≡ reading_answer s → r ≡ s
+one_reading = one_answer no_address
 
-pub one_writing : (r s : Writing) → writing_answer r ≡ writing_answer s → r ≡ s
-one_writing r s = one_answer writing.Wrote writing.Refused 0 writing_answer (λ n. refl) (λ e. refl) r s (cases r) (cases s)
-  where
-    cases : (x : Writing) → Cases writing.Wrote writing.Refused x
-    cases (writing.Wrote n) = given n
-    cases (writing.Refused e) = not_given e
+pub one_writing : (r s : Result ℕ Refusal) → writing_answer r ≡ writing_answer s → r ≡ s
+one_writing = one_answer 0
 
-pub one_block_reading : (r s : BlockReading) → block_answer r ≡ block_answer s → r ≡ s
-one_block_reading r s = one_answer block.Read block.Refused no_block block_answer (λ b. refl) (λ e. refl) r s (cases r) (cases s)
-  where
-    cases : (x : BlockReading) → Cases block.Read block.Refused x
-    cases (block.Read b) = given b
-    cases (block.Refused e) = not_given e
+pub one_block_reading : (r s : Result Block Refusal) → block_answer r ≡ block_answer s → r ≡ s
+one_block_reading = one_answer no_block
 
 -- ---- equality
 
@@ -205,46 +196,58 @@ same_means (V6 hi lo) (V6 hi' lo') h k = (
   λ e. eq-eqb (hi * 2 ^ 64 + lo) (hi' * 2 ^ 64 + lo') (ap number e),
 )
 
+-- And the derived `==` is this comparison.
+pub equal_means : (a b : Address) → IsAddress a → IsAddress b → equality.ghosts.eq a b ≡ same_address a b
+equal_means = addresses.equal_means
+
 -- ---- order
+
+-- The order that `partial_cmp` answers, `None` for two families, is that of the numbers.
+pub order_means : (a b : Address) → IsAddress a → IsAddress b → order.ghosts.partial_cmp a b ≡ address_order a b
+order_means = addresses.order_means
+
+-- So `a < b` says within a family that the number of a is below that of b.
+pub less_means : (a b : Address) → IsAddress a → IsAddress b → family a ≡ family b → partial_lt order.ghosts.partial_cmp a b ≡ ltb (number a) (number b)
+less_means = addresses.less_means
 
 -- "Addresses of one family are ordered as numbers of 32 or 128 bits, the first byte highest": each of the three answers exactly if the numbers
 -- say so, and the fourth exactly for two families.
 module _ (a b : Address) where
-  pub below_means : (address_order a b ≡ Below) ↔ ((family a ≡ family b) × (number a < number b))
-  below_means = order_exactly a b Below
+  pub below_means : (address_order a b ≡ Some Less) ↔ ((family a ≡ family b) × (number a < number b))
+  below_means = order_exactly a b (Some Less)
 
-  pub above_means : (address_order a b ≡ Above) ↔ ((family a ≡ family b) × (number b < number a))
-  above_means = order_exactly a b Above
+  pub above_means : (address_order a b ≡ Some Greater) ↔ ((family a ≡ family b) × (number b < number a))
+  above_means = order_exactly a b (Some Greater)
 
-  pub apart_means : (address_order a b ≡ TwoFamilies) ↔ ¬ (family a ≡ family b)
-  apart_means = order_exactly a b TwoFamilies
+  pub apart_means : (address_order a b ≡ None) ↔ ¬ (family a ≡ family b)
+  apart_means = order_exactly a b None
 
   -- The same are only equal addresses.
-  pub order_same_means : IsAddress a → IsAddress b → (address_order a b ≡ Same) ↔ (a ≡ b)
+  pub order_same_means : IsAddress a → IsAddress b → (address_order a b ≡ Some Equal) ↔ (a ≡ b)
   order_same_means h k = (
-    λ e. let s = (order_exactly a b Same).0 e in (same_means a b h k).0 (rw (eq-eqb (family a) (family b) s.0, eq-eqb (number a) (number b) s.1)),
-    λ e. (order_exactly a b Same).1 (ap family e, ap number e),
+    λ e. let s = (order_exactly a b (Some Equal)).0 e in (same_means a b h k).0 (rw (eq-eqb (family a) (family b) s.0, eq-eqb (number a) (number b) s.1)),
+    λ e. (order_exactly a b (Some Equal)).1 (ap family e, ap number e),
   )
 
   -- The order of one family is total,
-  pub order_total : family a ≡ family b → (address_order a b ≡ Below) ⊎ (address_order a b ≡ Same) ⊎ (address_order a b ≡ Above)
+  pub order_total : family a ≡ family b → (address_order a b ≡ Some Less) ⊎ (address_order a b ≡ Some Equal) ⊎ (address_order a b ≡ Some Greater)
   order_total e = elim (dec_lt (number a) (number b)) [
     | yes l ↦ inl (below_means.1 (e, l))
     | no n ↦ elim (dec_lt (number b) (number a)) [
       | yes l ↦ inr (inr (above_means.1 (e, l)))
-      | no m ↦ inr (inl ((order_exactly a b Same).1 (e, omega (arith, n, m))))
+      | no m ↦ inr (inl ((order_exactly a b (Some Equal)).1 (e, omega (arith, n, m))))
     ]
   ]
 
 -- turns with its arguments,
-pub order_swapped : (a b : Address) → (address_order a b ≡ Below) ↔ (address_order b a ≡ Above)
+pub order_swapped : (a b : Address) → (address_order a b ≡ Some Less) ↔ (address_order b a ≡ Some Greater)
 order_swapped a b = (
   λ e. let s = (below_means a b).0 e in (above_means b a).1 (sym s.0, s.1),
   λ e. let s = (above_means b a).0 e in (below_means a b).1 (sym s.0, s.1),
 )
 
 -- and is transitive.
-pub order_transitive : (a b c : Address) → address_order a b ≡ Below → address_order b c ≡ Below → address_order a c ≡ Below
+pub order_transitive : (a b c : Address) → address_order a b ≡ Some Less → address_order b c ≡ Some Less → address_order a c ≡ Some Less
 order_transitive a b c e f = let s = (below_means a b).0 e in let t = (below_means b c).0 f in (below_means a c).1 (s.0 ∙ t.0, omega (arith, s.1, t.1))
 
 -- "An address is a value of one of two kinds, IPv4 or IPv6, and carries its kind": family 4 with 32 bits or family 6 with 128, and no third.
@@ -275,6 +278,10 @@ same_block_means a b h k = (
         eq-eqb a.length b.length (ap (λ x. x.length) e),
       ),
 )
+
+-- And the derived `==` is this comparison.
+pub block_equal_means : (a b : Block) → IsAddress a.address → IsAddress b.address → block_equality.ghosts.eq a b ≡ same_block a b
+block_equal_means = addresses.block_equal_means
 
 -- ---- blocks
 

@@ -1,9 +1,9 @@
 -- Addresses: their family, width, number and order (01, "What the register needs now" and "Blocks and ranges"). Assumes nothing.
-use Rattle.std.specs.Prelude.{Bool, cond, ◌&&◌, ℕ, ◌+◌, ◌*◌, ◌^◌, ◌<◌, eqb, ltb}
+use Rattle.std.specs.Prelude.{Bool, cond, ◌&&◌, ℕ, ◌+◌, ◌*◌, ◌^◌, ◌<◌, eqb, ltb, Option, Some, None}
+use Rattle.std.specs.declared.cmp.Ordering.{Ordering}
+use Rattle.std.specs.declared.cmp.Ordering.TheVariants.{Less, Equal, Greater}
 use Rattle.address.specs.declared.Address.{Address}
 use Rattle.address.specs.declared.Address.TheVariants.{V4, V6}
-use Rattle.address.specs.declared.Order.{Order}
-use Rattle.address.specs.declared.Order.TheVariants.{Below, Same, Above, TwoFamilies}
 
 -- 4 or 6
 abbrev pub family : Address → ℕ
@@ -27,12 +27,12 @@ IsAddress (V6 hi lo) = (hi < 2 ^ 64) × (lo < 2 ^ 64)
 
 -- ---- order
 
-abbrev pub number_order : ℕ → ℕ → Order
-number_order m n = cond (ltb m n) Below (cond (eqb m n) Same Above)
+abbrev pub number_order : ℕ → ℕ → Ordering
+number_order m n = cond (ltb m n) Less (cond (eqb m n) Equal Greater)
 
 -- addresses of one family are ordered as their numbers, those of two are not ordered
-abbrev pub address_order : Address → Address → Order
-address_order a b = cond (eqb (family a) (family b)) (number_order (number a) (number b)) TwoFamilies
+abbrev pub address_order : Address → Address → Option Ordering
+address_order a b = cond (eqb (family a) (family b)) (Some (number_order (number a) (number b))) None
 
 -- whether two addresses are of one family and one number
 abbrev pub same_address : Address → Address → Bool

@@ -1,19 +1,10 @@
 -- Answers and refusals (01, "Why a call says no"). Assumes nothing.
-use Rattle.std.specs.Prelude.{Bool, true, false, cond, ◌||◌, List, [], ◌∷◌, ◌++◌, ℕ, eqb, ltb, length, drop}
-use Rattle.std.proofs.Math.Option.{Option, some, none, get_or}
+use Rattle.std.specs.Prelude.{◌≡◌, ◌≤◌, Bool, true, false, cond, ◌||◌, List, [], ◌∷◌, ◌++◌, ℕ, eqb, ltb, length, drop, Option, Some, None, unwrap_or, Ok, Err, Result, ⊤}
 use Rattle.address.specs.declared.Address.{Address}
 use Rattle.address.specs.declared.Address.TheVariants.{V4}
 use Rattle.address.specs.declared.Block.{Block}
 use Rattle.address.specs.declared.Refusal.{Refusal}
 use Rattle.address.specs.declared.Refusal.TheVariants.{TextTooLong, Malformed, NoRoom, LengthTooLarge, BitsBeyondLength, NoClass, HostTooLarge, FirstAboveLast, WrongFamily, TooMany}
-use Rattle.address.specs.declared.Reading.{Reading}
-use Rattle.address.specs.declared.Writing.{Writing}
-use Rattle.address.specs.declared.BlockReading.{BlockReading}
-use Rattle.address.specs.declared.Check.{Check}
-use Rattle.address.specs.declared.Reading.TheVariants as reading
-use Rattle.address.specs.declared.Writing.TheVariants as writing
-use Rattle.address.specs.declared.BlockReading.TheVariants as block
-use Rattle.address.specs.declared.Check.TheVariants as check
 
 -- the table's numbers, and 02's: Req 01 has 10, more entries than a call takes
 abbrev pub refusal_number : Refusal → ℕ
@@ -27,6 +18,11 @@ refusal_number HostTooLarge = 7
 refusal_number FirstAboveLast = 8
 refusal_number WrongFamily = 9
 refusal_number TooMany = 10
+
+-- what a number is taken for: the refusal that has it, for each of 1 to 10 and no other
+abbrev pub RefusalOf : ℕ → Result Refusal Refusal → Type 0
+RefusalOf n (Ok e) = (1 ≤ n) × (n ≤ 10) × (refusal_number e ≡ n)
+RefusalOf n (Err e) = ¬ ((1 ≤ n) × (n ≤ 10)) × (e ≡ Malformed)
 
 -- ---- the order of refusals
 
@@ -80,39 +76,36 @@ no_block = record { address = no_address; length = 0 }
 
 -- ---- each answer of the code in the paper's terms
 
--- the two cases of an enum that answers a value or a refusal
-pub data Cases {A R : Type 0} (value : A → R) (refused : Refusal → R) : R → Type 0 where
-  given : (a : A) → Cases value refused (value a)
-  not_given : (e : Refusal) → Cases value refused (refused e)
+-- a value, or a refusal with these fields
+abbrev pub result_answer : {A : Type 0} → A → Result A Refusal → Answer A
+result_answer zeros (Ok a) = gives a
+result_answer zeros (Err e) = refuses zeros e
 
-abbrev pub reading_answer : Reading → Answer Address
-reading_answer (reading.Read a) = gives a
-reading_answer (reading.Refused e) = refuses no_address e
+abbrev pub reading_answer : Result Address Refusal → Answer Address
+reading_answer r = result_answer no_address r
 
 -- the field is the number of bytes written
-abbrev pub writing_answer : Writing → Answer ℕ
-writing_answer (writing.Wrote n) = gives n
-writing_answer (writing.Refused e) = refuses 0 e
+abbrev pub writing_answer : Result ℕ Refusal → Answer ℕ
+writing_answer r = result_answer 0 r
 
-abbrev pub block_answer : BlockReading → Answer Block
-block_answer (block.Read b) = gives b
-block_answer (block.Refused e) = refuses no_block e
+abbrev pub block_answer : Result Block Refusal → Answer Block
+block_answer r = result_answer no_block r
 
 -- a check has no field beside the number
-abbrev pub check_number : Check → ℕ
-check_number check.Valid = 0
-check_number (check.Refused e) = refusal_number e
+abbrev pub check_number : Result ⊤ Refusal → ℕ
+check_number (Ok u) = 0
+check_number (Err e) = refusal_number e
 
 -- ---- texts
 
 abbrev pub missing : {A : Type 0} → Option A → Bool
-missing none = true
-missing (some a) = false
+missing None = true
+missing (Some a) = false
 
 -- What a reader of text answers, from what the text means: 2 where it has no meaning of the form asked for, or another reason.
 unfoldable pub read_answer : {A : Type 0} → List ℕ → A → List (ℕ × Bool) → Option A → Answer A
 unfolding refusal
-read_answer order zeros reasons meaning = answer zeros (refusal order ((2, missing meaning) ∷ reasons)) (get_or meaning zeros)
+read_answer order zeros reasons meaning = answer zeros (refusal order ((2, missing meaning) ∷ reasons)) (unwrap_or meaning zeros)
 
 -- ---- lent buffers
 

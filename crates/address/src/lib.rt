@@ -1,31 +1,36 @@
 // An IP address as a value of one of two kinds, why a call says no, and blocks of addresses.
+// The derived `==` of addresses and of blocks is `same_address` and `same_block`, as `equal_means` and `block_equal_means` of proofs/Claims.antt say.
 #![tactic(auto)]
 
-ghost use Rattle.std.specs.Prelude.{◌≡◌};
-ghost use Rattle.std.proofs.Math.Option.{some};
+ghost use Rattle.std.specs.Prelude.{◌≡◌, Some};
 ghost use Rattle.wide.specs.Value.{value};
-ghost use Rattle.address.specs.Addresses.{family, width, number, address_order, same_address};
-ghost use Rattle.address.specs.Answers.{refusal_number, precedence, check_number, no_block, block_answer, read_answer};
-ghost use Rattle.address.specs.Blocks.{block_reasons, block_refusal, same_block};
+ghost use Rattle.std.proofs.Common.{rules};
+ghost use Rattle.std.specs.Cmp.{partial_order_from_own_ties};
+ghost use Rattle.std.specs.Cmp.Rules.{comparing};
+ghost use Rattle.address.specs.Addresses.{family, width, number};
+ghost use Rattle.address.specs.Order.{parts_order, parts_po};
+ghost use Rattle.address.specs.Answers.{refusal_number, RefusalOf, precedence, check_number, no_block, block_answer, read_answer};
+ghost use Rattle.address.specs.Blocks.{block_reasons, block_refusal};
 
+use std::cmp::Ordering;
 use wide::Wide;
 
 // The halves of an IPv6 address are its first and its last 64 bits.
-#[derive(Clone, Copy)]
+#[derive(Clone, Copy, Debug, PartialEq, Eq)]
 pub enum Address {
     V4(u32),
     V6(u64, u64),
 }
 
 // A prefix: the addresses whose first `length` bits are those of `address`. Any value may be made; `check` tells a good one.
-#[derive(Clone, Copy)]
+#[derive(Clone, Copy, Debug, PartialEq, Eq)]
 pub struct Block {
     pub address: Address,
     pub length: u8,
 }
 
 // Why a call says no, in the order of the numbers 1 to 10.
-#[derive(Clone, Copy)]
+#[derive(Clone, Copy, Debug, PartialEq, Eq)]
 pub enum Refusal {
     TextTooLong,
     Malformed,
@@ -39,49 +44,12 @@ pub enum Refusal {
     TooMany,
 }
 
-// What a reader of an address answers.
-#[derive(Clone, Copy)]
-pub enum Reading {
-    Read(Address),
-    Refused(Refusal),
-}
+// The number of the table, 1 to 10.
+impl From<Refusal> for u8 {
+    ghost from_gives = { λ refusal n. n ≡ refusal_number refusal };
 
-// What a writer answers: the number of bytes at the start of the lent buffer.
-#[derive(Clone, Copy)]
-pub enum Writing {
-    Wrote(usize),
-    Refused(Refusal),
-}
-
-// What a reader of a block answers.
-#[derive(Clone, Copy)]
-pub enum BlockReading {
-    Read(Block),
-    Refused(Refusal),
-}
-
-// Whether a block value is good, or why not.
-#[derive(Clone, Copy)]
-pub enum Check {
-    Valid,
-    Refused(Refusal),
-}
-
-// How one address stands to another.
-#[derive(Clone, Copy)]
-pub enum Order {
-    Below,
-    Same,
-    Above,
-    TwoFamilies,
-}
-
-impl Refusal {
-    // The number of the table, 1 to 10.
-    pub fn number(self) -> u8
-        ensures { result ≡ refusal_number self }
-    {
-        match self {
+    fn from(refusal: Refusal) -> u8 {
+        match refusal {
             Refusal::TextTooLong => 1,
             Refusal::Malformed => 2,
             Refusal::NoRoom => 3,
@@ -92,6 +60,29 @@ impl Refusal {
             Refusal::FirstAboveLast => 8,
             Refusal::WrongFamily => 9,
             Refusal::TooMany => 10,
+        }
+    }
+}
+
+// The refusal of a number of the table. Any other number is not of the form asked for, which is a refusal itself.
+impl TryFrom<u32> for Refusal {
+    type Error = Refusal;
+
+    ghost try_from_gives = { RefusalOf };
+
+    fn try_from(number: u32) -> Result<Refusal, Refusal> {
+        match number {
+            1 => Ok(Refusal::TextTooLong),
+            2 => Ok(Refusal::Malformed),
+            3 => Ok(Refusal::NoRoom),
+            4 => Ok(Refusal::LengthTooLarge),
+            5 => Ok(Refusal::BitsBeyondLength),
+            6 => Ok(Refusal::NoClass),
+            7 => Ok(Refusal::HostTooLarge),
+            8 => Ok(Refusal::FirstAboveLast),
+            9 => Ok(Refusal::WrongFamily),
+            10 => Ok(Refusal::TooMany),
+            _ => Err(Refusal::Malformed),
         }
     }
 }
@@ -122,82 +113,50 @@ impl Address {
         ensures { value result ≡ number self }
     {
         match self {
-            Address::V4(v) => Wide::from_halves(0, v as u64),
+            Address::V4(v) => Wide::from(v as u64),
             Address::V6(hi, lo) => Wide::from_halves(hi, lo),
         }
     }
+}
 
-    // How the address stands to the other: by their numbers, if they are of one family.
-    pub fn compare(self, other: Address) -> Order
-        ensures { result ≡ address_order self other }
-    {
-        if self.family() != other.family() {
-            return Order::TwoFamilies;
-        }
-        let a = self.number();
-        let b = other.number();
-        if a.less(b) {
-            return Order::Below;
-        }
-        if a.same(b) {
-            return Order::Same;
-        }
-        Order::Above
-    }
+// By their numbers, if they are of one family (`order_means` of proofs/Claims.antt); those of two have no order, so that no caller can take one
+// for it. A derive would order all IPv4 addresses before all IPv6 ones.
+impl PartialOrd for Address {
+    ghost partial_cmp = { parts_order };
 
-    // Whether both are of one family and one number.
-    pub fn same(self, other: Address) -> bool
-        ensures { result ≡ same_address self other }
-    {
-        match self {
-            Address::V4(v) => match other {
-                Address::V4(w) => v == w,
-                Address::V6(_, _) => false,
-            },
-            Address::V6(hi, lo) => match other {
-                Address::V4(_) => false,
-                Address::V6(h, l) => Wide::from_halves(hi, lo).same(Wide::from_halves(h, l)),
-            },
+    ghost laws = { partial_order_from_own_ties parts_po (Prim.search (comparing, rules)) };
+
+    fn partial_cmp(&self, other: &Address) -> Option<Ordering> {
+        match (*self, *other) {
+            (Address::V4(v), Address::V4(w)) => Some(v.cmp(&w)),
+            (Address::V6(hi, lo), Address::V6(h, l)) => Some((hi, lo).cmp(&(h, l))),
+            _ => None,
         }
     }
 }
 
 impl Block {
     // Whether the block keeps both rules: its length is at most the address's width, and no bit beyond the length is one.
-    pub fn check(self) -> Check
+    pub fn check(self) -> Result<(), Refusal>
         ensures { check_number result ≡ block_refusal self }
     {
         let address = self.address;
         let length = self.length;
         let width = address.width();
         if width < length {
-            return Check::Refused(Refusal::LengthTooLarge);
+            return Err(Refusal::LengthTooLarge);
         }
         if address.number().ends_in_zeros((width - length) as u32) {
-            return Check::Valid;
+            return Ok(());
         }
-        Check::Refused(Refusal::BitsBeyondLength)
+        Err(Refusal::BitsBeyondLength)
     }
 
     // The block, where it keeps both rules.
-    pub fn checked(self) -> BlockReading
-        ensures { block_answer result ≡ read_answer precedence no_block (block_reasons self) (some self) }
+    pub fn checked(self) -> Result<Block, Refusal>
+        ensures { block_answer result ≡ read_answer precedence no_block (block_reasons self) (Some self) }
     {
-        match self.check() {
-            Check::Valid => BlockReading::Read(self),
-            Check::Refused(e) => BlockReading::Refused(e),
-        }
-    }
-
-    // Whether address and length are the same.
-    pub fn same(self, other: Block) -> bool
-        ensures { result ≡ same_block self other }
-    {
-        let a = self.address;
-        let b = other.address;
-        if !a.same(b) {
-            return false;
-        }
-        self.length == other.length
+        self.check()?;
+        Ok(self)
     }
 }

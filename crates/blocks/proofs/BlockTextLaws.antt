@@ -1,8 +1,8 @@
 -- What the text of a block is read as, what its reader answers, and how long the text is at most. Assumes nothing.
+use Rattle.std.specs.Prelude.{Option, Some, None, unwrap_or, Ok, Err, Result, ok_or}
 use mathlib.Core.Path.{◌≡◌, refl, sym, ap, ap₂, subst, ◌∙◌}
 use mathlib.Core.Bool.{Bool, true, false, cond}
 use mathlib.Core.List.{List, ◌∷◌, ◌++◌}
-use mathlib.Core.Option.{Option, some, none, get_or}
 use Prim.Native.Nat.{ℕ, suc, ◌+◌, ◌≤◌, ◌<◌}
 use native.Mathlib.Numerals.{add-one}
 use native.Mathlib.Omega.{arith}
@@ -18,22 +18,19 @@ use Rattle.notation.proofs.SliceLaws.{tail, to_end}
 use Rattle.address.specs.declared.Address.{Address}
 use Rattle.address.specs.declared.Address.TheVariants.{V4, V6}
 use Rattle.address.specs.declared.Block.{Block}
-use Rattle.address.specs.declared.Reading.{Reading}
-use Rattle.address.specs.declared.Reading.TheVariants.{Read, Refused}
 use Rattle.address.specs.declared.Refusal.{Refusal}
 use Rattle.address.specs.declared.Refusal.TheVariants.{TextTooLong, Malformed, LengthTooLarge}
 use Rattle.address.specs.Addresses.{width}
 use Rattle.address.specs.Answers.{precedence, Answer, gives, refuses, no_block, reading_answer, read_answer}
 use Rattle.address.specs.Blocks.{block_reasons}
 use Rattle.address.proofs.Claims.{one_reading}
-use Rattle.digits.specs.declared.read.Leading.TheVariants.{Number, Nothing}
 use Rattle.digits.specs.Numerals.{digit_of, part_of, as_leading, decimal}
 use Rattle.digits.proofs.NumeralLaws.{no_digit, part_digits, numeral_length}
 use Rattle.digits.proofs.FirstPieceLaws.{as_number, as_nothing}
-use Rattle.text.specs.Inner.{as_reading}
 use Rattle.text.specs.Strict.{strict_of, strict_answer}
 use Rattle.text.proofs.ByteLaws.{strict_lacks}
-use Rattle.text.proofs.StrictLaws.{read_says, refused_says, strict_read}
+use Rattle.notation.proofs.OptionLaws.{ok_is, err_is}
+use Rattle.text.proofs.StrictLaws.{strict_read}
 use Rattle.normal.specs.Normal.{normal_text}
 use Rattle.normal.proofs.BoundLaws as normal
 use Rattle.blocks.specs.BlockText.{with_length, block_of, block_text_answer, block_text}
@@ -50,33 +47,33 @@ module _ (t : List ℕ) where
   answer_long h = rw (lt-ltb 64 (length t) h)
 
   module _ (short : length t ≤ 64) where
-    pub answer_malformed : block_of t ≡ none → refuses no_block Malformed ≡ block_text_answer t
+    pub answer_malformed : block_of t ≡ None → refuses no_block Malformed ≡ block_text_answer t
     unfolding block_text_answer read_answer
     answer_malformed h = rw (h, le-ltb 64 (length t) short)
 
-    module _ (b : Block) (h : block_of t ≡ some b) where
+    module _ (b : Block) (h : block_of t ≡ Some b) where
       -- a length above 128 is above either width
       answer_large : 128 < b.length → refuses no_block LengthTooLarge ≡ block_text_answer t
       unfolding block_text_answer read_answer
       answer_large l = rw (h, le-ltb 64 (length t) short, lt-ltb (width b.address) b.length (omega (arith, width_most b.address)))
 
       -- a text that has the form has the block's own refusals alone
-      pub answer_checked : read_answer precedence no_block (block_reasons b) (some b) ≡ block_text_answer t
+      pub answer_checked : read_answer precedence no_block (block_reasons b) (Some b) ≡ block_text_answer t
       unfolding block_text_answer read_answer
       answer_checked = rw (h, le-ltb 64 (length t) short)
 
 -- ---- what a text means
 
 -- what the reader of addresses answers where the text is not too long
-reading_is : (r : Reading) (t : List ℕ) → length t ≤ 64 → reading_answer r ≡ strict_answer 0 t → r ≡ as_reading (strict_of 0 t)
-reading_is r t short h = one_reading r (as_reading (strict_of 0 t)) (h ∙ sym (strict_read 0 t refl short))
+reading_is : (r : Result Address Refusal) (t : List ℕ) → length t ≤ 64 → reading_answer r ≡ strict_answer 0 t → r ≡ ok_or (strict_of 0 t) Malformed
+reading_is r t short h = one_reading r (ok_or (strict_of 0 t) Malformed) (h ∙ sym (strict_read 0 t refl short))
 
-with_none : (o : Option Address) → with_length o none ≡ none
-with_none none = refl
-with_none (some a) = refl
+with_none : (o : Option Address) → with_length o None ≡ None
+with_none None = refl
+with_none (Some a) = refl
 
 module _ (t : List ℕ) (s : ℕ) (at : s ≡ index_of 47 t) where
-  block_none : length t ≤ s → block_of t ≡ none
+  block_none : length t ≤ s → block_of t ≡ None
   unfolding block_of
   block_none l = rw (index_lacks 47 t (omega arith))
 
@@ -90,26 +87,26 @@ module _ (t : List ℕ) (s : ℕ) (at : s ≡ index_of 47 t) (short : length t �
   no_slash l = answer_malformed t short (block_none t s at l)
 
   module _ (l : s < length t) where
-    address_is : (r : Reading) → reading_answer r ≡ strict_answer 0 (take s t) → r ≡ as_reading (strict_of 0 (take s t))
+    address_is : (r : Result Address Refusal) → reading_answer r ≡ strict_answer 0 (take s t) → r ≡ ok_or (strict_of 0 (take s t)) Malformed
     address_is r = reading_is r (take s t) (omega (arith, length-take-le s t (omega arith)))
 
-    pub no_address_lem : (e : Refusal) → reading_answer (Refused e) ≡ strict_answer 0 (take s t) → refuses no_block Malformed ≡ block_text_answer t
-    no_address_lem e h = answer_malformed t short (block_slash t s at l ∙ rw (refused_says (strict_of 0 (take s t)) e (address_is (Refused e) h)))
+    pub no_address_lem : (e : Refusal) → reading_answer (Err e) ≡ strict_answer 0 (take s t) → refuses no_block Malformed ≡ block_text_answer t
+    no_address_lem e h = answer_malformed t short (block_slash t s at l ∙ rw (err_is (strict_of 0 (take s t)) Malformed (address_is (Err e) h)))
 
-    pub no_length : (k : ℕ) → Nothing ≡ as_leading (part_of 999 (tail (s + 1) t)) k → refuses no_block Malformed ≡ block_text_answer t
+    pub no_length : (k : ℕ) → None ≡ as_leading (part_of 999 (tail (s + 1) t)) k → refuses no_block Malformed ≡ block_text_answer t
     no_length k h = answer_malformed t short (block_slash t s at l ∙ rw (as_nothing (part_of 999 (tail (s + 1) t)) k h) (with_none (strict_of 0 (take s t))))
 
-    module _ (a : Address) (h : reading_answer (Read a) ≡ strict_answer 0 (take s t)) (n k m : ℕ) (e : Number n k ≡ as_leading (part_of 999 (tail (s + 1) t)) m) where
+    module _ (a : Address) (h : reading_answer (Ok a) ≡ strict_answer 0 (take s t)) (n k m : ℕ) (e : Some (n, k) ≡ as_leading (part_of 999 (tail (s + 1) t)) m) where
       abbrev found : Block
       found = record { address = a; length = n }
 
-      block_is : block_of t ≡ some found
-      block_is = block_slash t s at l ∙ ap₂ with_length (read_says (strict_of 0 (take s t)) a (address_is (Read a) h)) (as_number (part_of 999 (tail (s + 1) t)) n k m e).0
+      block_is : block_of t ≡ Some found
+      block_is = block_slash t s at l ∙ ap₂ with_length (ok_is (strict_of 0 (take s t)) Malformed (address_is (Ok a) h)) (as_number (part_of 999 (tail (s + 1) t)) n k m e).0
 
       pub length_large : 128 < n → refuses no_block LengthTooLarge ≡ block_text_answer t
       length_large = answer_large t short found block_is
 
-      pub block_checked : {r : Answer Block} → r ≡ read_answer precedence no_block (block_reasons found) (some found) → r ≡ block_text_answer t
+      pub block_checked : {r : Answer Block} → r ≡ read_answer precedence no_block (block_reasons found) (Some found) → r ≡ block_text_answer t
       block_checked c = c ∙ answer_checked t short found block_is
 
 -- ---- the text
@@ -127,16 +124,16 @@ text_most b =
 
 -- ---- a text that has a meaning
 
-with_says : (o : Option Address) (n : Option ℕ) (b : Block) → with_length o n ≡ some b → (o ≡ some b.address) × (n ≡ some b.length)
-with_says none n b e = impossible e
-with_says (some a) none b e = impossible e
-with_says (some a) (some n) b e = let is = same_value e in (ap (λ (c : Block). some c.address) is, ap (λ (c : Block). some c.length) is)
+with_says : (o : Option Address) (n : Option ℕ) (b : Block) → with_length o n ≡ Some b → (o ≡ Some b.address) × (n ≡ Some b.length)
+with_says None n b e = impossible e
+with_says (Some a) None b e = impossible e
+with_says (Some a) (Some n) b e = let is = same_value e in (ap (λ (c : Block). Some c.address) is, ap (λ (c : Block). Some c.length) is)
 
 -- an address, a slash and a length
-pub block_parts : (t : List ℕ) (b : Block) → block_of t ≡ some b
+pub block_parts : (t : List ℕ) (b : Block) → block_of t ≡ Some b
     → let before = take (index_of 47 t) t in
     let behind = drop (suc (index_of 47 t)) t in
-    (before ++ 47 ∷ behind ≡ t) × (strict_of 0 before ≡ some b.address) × (part_of 999 behind ≡ some b.length)
+    (before ++ 47 ∷ behind ≡ t) × (strict_of 0 before ≡ Some b.address) × (part_of 999 behind ≡ Some b.length)
 unfolding block_of
 block_parts t b e = go (contains 47 t) refl e
   where
@@ -146,20 +143,20 @@ block_parts t b e = go (contains 47 t) refl e
     behind : List ℕ
     behind = drop (suc (index_of 47 t)) t
 
-    go : (p : Bool) → contains 47 t ≡ p → cond p (with_length (strict_of 0 before) (part_of 999 behind)) none ≡ some b
-        → (before ++ 47 ∷ behind ≡ t) × (strict_of 0 before ≡ some b.address) × (part_of 999 behind ≡ some b.length)
+    go : (p : Bool) → contains 47 t ≡ p → cond p (with_length (strict_of 0 before) (part_of 999 behind)) None ≡ Some b
+        → (before ++ 47 ∷ behind ≡ t) × (strict_of 0 before ≡ Some b.address) × (part_of 999 behind ≡ Some b.length)
     go true q k = let s = with_says (strict_of 0 before) (part_of 999 behind) b k in (around 47 t q, s.0, s.1)
     go false q k = impossible k
 
 -- what is read has a meaning
-block_meant : (t : List ℕ) (b : Block) → block_text_answer t ≡ gives b → (c : Block) × (block_of t ≡ some c)
+block_meant : (t : List ℕ) (b : Block) → block_text_answer t ≡ gives b → (c : Block) × (block_of t ≡ Some c)
 unfolding block_text_answer read_answer
 block_meant t b e = go (block_of t) (ltb 64 (length t)) (ap (λ r. r.number) e)
   where
-    go : (o : Option Block) (l : Bool) → (read_answer precedence no_block ((1, l) ∷ block_reasons (get_or o no_block)) o).number ≡ 0 → (c : Block) × (o ≡ some c)
-    go none true h = let z : ◌≡◌ {A = ℕ} 1 0 = h in absurd (omega arith)
-    go none false h = let z : ◌≡◌ {A = ℕ} 2 0 = h in absurd (omega arith)
-    go (some c) l h = (c, refl)
+    go : (o : Option Block) (l : Bool) → (read_answer precedence no_block ((1, l) ∷ block_reasons (unwrap_or o no_block)) o).number ≡ 0 → (c : Block) × (o ≡ Some c)
+    go None true h = let z : ◌≡◌ {A = ℕ} 1 0 = h in absurd (omega arith)
+    go None false h = let z : ◌≡◌ {A = ℕ} 2 0 = h in absurd (omega arith)
+    go (Some c) l h = (c, refl)
 
 -- so that it holds hex digits, dots, colons and slashes alone
 pub read_lacks : (c : ℕ) → digit_of c ≡ 16 → eqb 46 c ≡ false → eqb 58 c ≡ false → eqb 47 c ≡ false → (t : List ℕ) (b : Block) → block_text_answer t ≡ gives b → Lacks c t

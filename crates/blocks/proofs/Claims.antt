@@ -1,7 +1,7 @@
 -- What is claimed of the text of a block: written, and read again (01, "Blocks and ranges"). Assumes nothing.
+use Rattle.std.specs.Prelude.{Some}
 use mathlib.Core.Path.{◌≡◌}
 use mathlib.Core.List.{List}
-use mathlib.Core.Option.{some}
 use Prim.Native.Nat.{ℕ, ◌≤◌}
 use native.Mathlib.Omega.{arith}
 use lib.ListN.{length, take}
@@ -21,7 +21,7 @@ pub at_most_43 : (b : Block) → length (block_text b) ≤ 43
 at_most_43 = text_most
 
 -- Reading the text of a block value gives that value, whether or not it keeps the rules: its length need only have three digits.
-pub read_back : (b : Block) → IsAddress b.address → b.length ≤ 999 → block_of (block_text b) ≡ some b
+pub read_back : (b : Block) → IsAddress b.address → b.length ≤ 999 → block_of (block_text b) ≡ Some b
 read_back = text_read_back
 
 -- Demand 2 for blocks: a block that keeps both rules is read back from its text.

@@ -1,7 +1,7 @@
 -- Reading the text of a block. Assumes nothing.
+use Rattle.std.specs.Prelude.{Some}
 use mathlib.Core.Path.{◌≡◌, sym, ◌∙◌}
 use mathlib.Core.List.{List, ◌∷◌, ◌++◌}
-use mathlib.Core.Option.{some}
 use Prim.Native.Nat.{ℕ, ◌≤◌}
 use native.Mathlib.Omega.{arith}
 use Rattle.notation.specs.Pieces.{Lacks}
@@ -23,12 +23,12 @@ use Rattle.blocks.proofs.BlockTextLaws.{answer_checked, text_most}
 -- ---- a text with a slash
 
 -- an address before the first slash, and a length behind it
-slash_block : (s t : List ℕ) (a : Address) (n : ℕ) → Lacks 47 s → strict_of 0 s ≡ some a → part_of 999 t ≡ some n → block_of (s ++ 47 ∷ t) ≡ some (record { address = a; length = n })
+slash_block : (s t : List ℕ) (a : Address) (n : ℕ) → Lacks 47 s → strict_of 0 s ≡ Some a → part_of 999 t ≡ Some n → block_of (s ++ 47 ∷ t) ≡ Some (record { address = a; length = n })
 unfolding block_of
 slash_block s t a n l e f = let w = seam 47 s t l in rw (w.0, w.1, w.2, e, f)
 
 module _ (b : Block) (h : IsAddress b.address) (l : b.length ≤ 999) where
-  pub text_read_back : block_of (block_text b) ≡ some b
+  pub text_read_back : block_of (block_text b) ≡ Some b
   unfolding block_text
   text_read_back = slash_block (normal_text b.address) (decimal b.length) b.address b.length (text_lacks_slash b.address) (text_read b.address h).0 (decimal_part 999 b.length l (omega arith))
 

@@ -7,33 +7,31 @@ ghost use Rattle.address.specs.Blocks.{block_refusal};
 ghost use Rattle.output.specs.Placing.{Puts};
 ghost use Rattle.blocks.specs.BlockText.{block_text_answer, block_text};
 
-use address::{Block, BlockReading, Check, Reading, Refusal, Writing};
+use address::{Block, Refusal};
 use digits::parts::whole_part;
-use digits::read::{Leading, find};
+use digits::read::find;
 use normal::put_address;
 use output::{put, put_decimal};
 use store::store;
 use text::read_address;
 
 // The block of a text of either family.
-pub fn read_block(text: &[u8]) -> BlockReading
+pub fn read_block(text: &[u8]) -> Result<Block, Refusal>
     ensures { block_answer result ≡ block_text_answer text.now }
 {
     if 64 < text.len() {
-        return BlockReading::Refused(Refusal::TextTooLong);
+        return Err(Refusal::TextTooLong);
     }
     let slash = find(text, b'/');
     if text.len() <= slash {
-        return BlockReading::Refused(Refusal::Malformed);
+        return Err(Refusal::Malformed);
     }
-    let Reading::Read(address) = read_address(&text[..slash], 0) else {
-        return BlockReading::Refused(Refusal::Malformed);
+    let Ok(address) = read_address(&text[..slash], 0) else {
+        return Err(Refusal::Malformed);
     };
-    let Leading::Number(length, _) = whole_part(&text[slash + 1..], 999) else {
-        return BlockReading::Refused(Refusal::Malformed);
-    };
+    let (length, _) = whole_part(&text[slash + 1..], 999).ok_or(Refusal::Malformed)?;
     if 128 < length {
-        return BlockReading::Refused(Refusal::LengthTooLarge);
+        return Err(Refusal::LengthTooLarge);
     }
     let block = Block {
         address,
@@ -55,15 +53,11 @@ pub fn put_block(text: &mut [u8], at: usize, block: Block) -> usize
 }
 
 // Writes the text of a block to the start of `out`, where the block keeps both rules and there is room for it.
-pub fn write_block(block: Block, out: &mut [u8]) -> Writing
+pub fn write_block(block: Block, out: &mut [u8]) -> Result<usize, Refusal>
     ensures { (writing_answer result ≡ write_answer (block_refusal block) (block_text block) out.old) × (out.new ≡ write_leaves (block_refusal block) (block_text block) out.old) }
 {
-    match block.check() {
-        Check::Refused(e) => Writing::Refused(e),
-        Check::Valid => {
-            let mut text = [0u8; 48];
-            let n = put_block(&mut text, 0, block);
-            store(&text[..n], out)
-        }
-    }
+    block.check()?;
+    let mut text = [0u8; 48];
+    let n = put_block(&mut text, 0, block);
+    store(&text[..n], out)
 }

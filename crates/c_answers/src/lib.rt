@@ -8,10 +8,7 @@ ghost use Rattle.classes.specs.Classes.{splitting_answer};
 ghost use Rattle.records.specs.Records.{blocks_writing_answer};
 ghost use Rattle.c_answers.specs.CAnswers.{written_answer, network_read_answer, network_host_answer, block_read_answer, blocks_written_answer, besides};
 
-use address::{Refusal, Writing};
-use classes::Splitting;
-use network::NetworkReading;
-use records::BlocksWriting;
+use address::Refusal;
 
 // Every answer has the refusal's number first, 0 for none; where it is not 0, every other field is.
 
@@ -60,93 +57,103 @@ pub struct BlocksWritten {
 }
 
 // A refusal where a number of bytes would be answered.
-pub fn refused(e: Refusal) -> Written
-    ensures { written_answer result ≡ refuses 0 e }
-{
-    let number = e.number() as u32;
-    Written {
-        refusal: number,
-        bytes: 0,
+impl From<Refusal> for Written {
+    ghost from_gives = { λ e r. written_answer r ≡ refuses 0 e };
+
+    fn from(e: Refusal) -> Written {
+        let number = u8::from(e) as u32;
+        Written {
+            refusal: number,
+            bytes: 0,
+        }
     }
 }
 
 // What a writer answered.
-pub fn as_written(w: Writing) -> Written
-    ensures { written_answer result ≡ writing_answer w }
-{
-    match w {
-        Writing::Wrote(bytes) => Written { refusal: 0, bytes },
-        Writing::Refused(e) => refused(e),
+impl From<Result<usize, Refusal>> for Written {
+    ghost from_gives = { λ w r. written_answer r ≡ writing_answer w };
+
+    fn from(w: Result<usize, Refusal>) -> Written {
+        match w {
+            Ok(bytes) => Written { refusal: 0, bytes },
+            Err(e) => Written::from(e),
+        }
     }
 }
 
 // What the reader of the network form answered.
-pub fn as_network_read(n: NetworkReading) -> NetworkRead
-    ensures { network_read_answer result ≡ network_reading_answer n }
-{
-    match n {
-        NetworkReading::Read(size, bytes) => NetworkRead {
-            refusal: 0,
-            size: size as u32,
-            bytes,
-        },
-        NetworkReading::Refused(e) => NetworkRead {
-            refusal: e.number() as u32,
-            size: 0,
-            bytes: 0,
-        },
+impl From<Result<(u8, usize), Refusal>> for NetworkRead {
+    ghost from_gives = { λ n r. network_read_answer r ≡ network_reading_answer n };
+
+    fn from(n: Result<(u8, usize), Refusal>) -> NetworkRead {
+        match n {
+            Ok((size, bytes)) => NetworkRead {
+                refusal: 0,
+                size: size as u32,
+                bytes,
+            },
+            Err(e) => NetworkRead {
+                refusal: u8::from(e) as u32,
+                size: 0,
+                bytes: 0,
+            },
+        }
     }
 }
 
 // What a split answered.
-pub fn as_network_host(s: Splitting) -> NetworkHost
-    ensures { network_host_answer result ≡ splitting_answer s }
-{
-    match s {
-        Splitting::NetworkHost(network, host) => NetworkHost {
-            refusal: 0,
-            network,
-            host,
-        },
-        Splitting::Refused(e) => NetworkHost {
-            refusal: e.number() as u32,
-            network: 0,
-            host: 0,
-        },
-    }
-}
+impl From<Result<(u32, u32), Refusal>> for NetworkHost {
+    ghost from_gives = { λ s r. network_host_answer r ≡ splitting_answer s };
 
-// A length beside what a writer of the address answers.
-pub fn as_block_read(length: u8, w: Writing) -> BlockRead
-    ensures { block_read_answer result ≡ besides length (writing_answer w) }
-{
-    match w {
-        Writing::Wrote(bytes) => BlockRead {
-            refusal: 0,
-            length: length as u32,
-            bytes,
-        },
-        Writing::Refused(e) => BlockRead {
-            refusal: e.number() as u32,
-            length: 0,
-            bytes: 0,
-        },
+    fn from(s: Result<(u32, u32), Refusal>) -> NetworkHost {
+        match s {
+            Ok((network, host)) => NetworkHost {
+                refusal: 0,
+                network,
+                host,
+            },
+            Err(e) => NetworkHost {
+                refusal: u8::from(e) as u32,
+                network: 0,
+                host: 0,
+            },
+        }
     }
 }
 
 // What the writer of a range answered.
-pub fn as_blocks_written(w: BlocksWriting) -> BlocksWritten
-    ensures { blocks_written_answer result ≡ blocks_writing_answer w }
+impl From<Result<(usize, usize), Refusal>> for BlocksWritten {
+    ghost from_gives = { λ w r. blocks_written_answer r ≡ blocks_writing_answer w };
+
+    fn from(w: Result<(usize, usize), Refusal>) -> BlocksWritten {
+        match w {
+            Ok((blocks, bytes)) => BlocksWritten {
+                refusal: 0,
+                blocks,
+                bytes,
+            },
+            Err(e) => BlocksWritten {
+                refusal: u8::from(e) as u32,
+                blocks: 0,
+                bytes: 0,
+            },
+        }
+    }
+}
+
+// A length beside what a writer of the address answers.
+pub fn as_block_read(length: u8, w: Result<usize, Refusal>) -> BlockRead
+    ensures { block_read_answer result ≡ besides length (writing_answer w) }
 {
     match w {
-        BlocksWriting::Wrote(blocks, bytes) => BlocksWritten {
+        Ok(bytes) => BlockRead {
             refusal: 0,
-            blocks,
+            length: length as u32,
             bytes,
         },
-        BlocksWriting::Refused(e) => BlocksWritten {
-            refusal: e.number() as u32,
-            blocks: 0,
+        Err(e) => BlockRead {
+            refusal: u8::from(e) as u32,
+            length: 0,
             bytes: 0,
         },
     }

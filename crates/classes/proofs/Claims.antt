@@ -1,7 +1,8 @@
 -- What 01, "Classes", and demand 2 ask of splitting and joining. Assumes nothing.
+use Rattle.address.specs.declared.Refusal.{Refusal}
+use Rattle.std.specs.Prelude.{Some, Result}
 use mathlib.Core.Logic.{◌⊎◌, ◌↔◌}
 use mathlib.Core.Path.{◌≡◌, refl, sym, ap, ap₂, subst, ◌∙◌}
-use mathlib.Core.Option.{some}
 use Prim.Native.Nat.{ℕ, ◌+◌, ◌-◌, ◌*◌, ◌/◌, ◌%◌, ◌^◌, ◌≤◌, ◌<◌}
 use native.Mathlib.Decide.{dec_lt}
 use native.Mathlib.Omega.{arith}
@@ -9,12 +10,10 @@ use Rattle.address.specs.declared.Address.{Address}
 use Rattle.address.specs.declared.Address.TheVariants.{V4, V6}
 use Rattle.address.specs.declared.Refusal.TheVariants.{NoClass}
 use Rattle.address.specs.Addresses.{IsAddress, family, number}
-use Rattle.address.specs.Answers.{Answer, gives, refuses, Cases, given, not_given}
+use Rattle.address.specs.Answers.{Answer, gives, refuses}
 use Rattle.address.proofs.Claims.{one_answer}
 use Rattle.classes.specs.Classes.{Class, class_a, class_b, class_c, class_of, network_class, hosts, split_answer, splitting_answer, join_answer}
 use Rattle.classes.specs.ClassTable.{SplitCall, bits_111, Row, JoinCall}
-use Rattle.classes.specs.declared.Splitting.{Splitting}
-use Rattle.classes.specs.declared.Splitting.TheVariants.{NetworkHost, Refused}
 use Rattle.classes.proofs.ClassLaws.{class_a_lem, class_b_lem, class_c_lem, split_class}
 use Rattle.classes.proofs.JoinLaws as laws
 use Rattle.classes.proofs.TableLaws.{split_answers, split_call, join_answers, join_call}
@@ -51,7 +50,7 @@ split_number = table.split_number
 
 -- "has a premise: the address does not begin with 111": all others split, by the class whose first bits they begin with
 pub splits : (v : ℕ) → v < 2 ^ 32 → (v / 2 ^ 29 ≡ 7 → ⊥)
-    → (c : Class) × (class_of v ≡ some c) × (v / 2 ^ (32 - c.bits) ≡ c.first) × (split_answer (V4 v) ≡ gives (v / hosts c, v % hosts c))
+    → (c : Class) × (class_of v ≡ Some c) × (v / 2 ^ (32 - c.bits) ≡ c.first) × (split_answer (V4 v) ≡ gives (v / hosts c, v % hosts c))
 splits v h d = elim (dec_lt v 2147483648) [
   | yes a ↦ let e = class_a_lem v a in (class_a, e, omega arith, sym (split_class v class_a e))
   | no a ↦ elim (dec_lt v 3221225472) [
@@ -70,7 +69,7 @@ no_split v h = (λ e. ((split_number (V4 v) h).1.0 (ap (λ r. r.number) e)).1, �
 -- ---- the class bits
 
 -- "the class bits stay in it": the network number is of the address's class, and begins with the same first bits
-pub class_stays : (v : ℕ) (c : Class) → class_of v ≡ some c → network_class (v / hosts c) ≡ some c
+pub class_stays : (v : ℕ) (c : Class) → class_of v ≡ Some c → network_class (v / hosts c) ≡ Some c
 class_stays = laws.network_same
 
 -- "the network number is whole bytes": one, two or three of four
@@ -97,12 +96,5 @@ pub join_number : (n h : ℕ) → let k = (join_answer n h).number in
 join_number = table.join_number
 
 -- A promise about the paper's answer fixes the code's answer.
-pub one_splitting : (r s : Splitting) → splitting_answer r ≡ splitting_answer s → r ≡ s
-one_splitting r s = one_answer value Refused (0, 0) splitting_answer (λ p. refl) (λ e. refl) r s (cases r) (cases s)
-  where
-    value : ℕ × ℕ → Splitting
-    value p = NetworkHost p.0 p.1
-
-    cases : (x : Splitting) → Cases value Refused x
-    cases (NetworkHost m n) = given (m, n)
-    cases (Refused e) = not_given e
+pub one_splitting : (r s : Result (ℕ × ℕ) Refusal) → splitting_answer r ≡ splitting_answer s → r ≡ s
+one_splitting = one_answer (0, 0)

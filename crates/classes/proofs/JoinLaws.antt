@@ -1,8 +1,8 @@
 -- An address and its two parts are of one class, so splitting and joining undo each other. Assumes nothing.
+use Rattle.std.specs.Prelude.{Option, Some, None}
 use mathlib.Core.Path.{◌≡◌, refl, sym, ap, ap₂, ◌∙◌}
 use mathlib.Core.Bool.{Bool, true, false}
 use mathlib.Core.List.{[], ◌∷◌}
-use mathlib.Core.Option.{Option, some, none}
 use Prim.Native.Nat.{ℕ, ◌+◌, ◌*◌, ◌/◌, ◌%◌, ◌^◌, ◌≤◌, ◌<◌}
 use native.Mathlib.Nat.{div-add-mod', mod-lt}
 use native.Mathlib.Decide.{dec_le, dec_lt}
@@ -17,16 +17,16 @@ use Rattle.address.specs.Answers.{precedence, answer, gives, refuses, refusal, m
 use Rattle.classes.specs.Classes.{Class, class_a, class_b, class_c, class_of, network_class, hosts, network_host, host_too_large, host_address, split_answer, join_answer}
 use Rattle.classes.proofs.ClassLaws.{class_a_lem, class_b_lem, class_c_lem, class_none, network_a, network_b, network_c, network_ab, network_bc, network_above, split_class, join_class}
 
-pub some_same : {c d : Class} → some c ≡ some d → c ≡ d
+pub some_same : {c d : Class} → Some c ≡ Some d → c ≡ d
 some_same e = cc
 
-none_some : {c : Class} → none ≡ some c → ⊥
+none_some : {c : Class} → None ≡ Some c → ⊥
 none_some e = let z : ◌≡◌ {A = ℕ} 0 1 = cc in omega arith
 
 -- ---- one class
 
 -- the network number of an address is of the address's class
-pub network_same : (v : ℕ) (c : Class) → class_of v ≡ some c → network_class (v / hosts c) ≡ some c
+pub network_same : (v : ℕ) (c : Class) → class_of v ≡ Some c → network_class (v / hosts c) ≡ Some c
 network_same v c e = elim (dec_lt v 2147483648) [
   | yes a ↦ go class_a (class_a_lem v a) (network_a (v / 16777216) (omega arith))
   | no a ↦ elim (dec_lt v 3221225472) [
@@ -38,11 +38,11 @@ network_same v c e = elim (dec_lt v 2147483648) [
   ]
 ]
   where
-    go : (d : Class) → class_of v ≡ some d → network_class (v / hosts d) ≡ some d → network_class (v / hosts c) ≡ some c
+    go : (d : Class) → class_of v ≡ Some d → network_class (v / hosts d) ≡ Some d → network_class (v / hosts c) ≡ Some c
     go d p q = let s : d ≡ c = some_same (sym p ∙ e) in rw (← s) q
 
 -- the address of a network number and a host number is of the network number's class
-pub address_same : (n h : ℕ) (c : Class) → network_class n ≡ some c → h ≤ c.host_most → (class_of (n * hosts c + h) ≡ some c) × (n * hosts c + h < 2 ^ 32)
+pub address_same : (n h : ℕ) (c : Class) → network_class n ≡ Some c → h ≤ c.host_most → (class_of (n * hosts c + h) ≡ Some c) × (n * hosts c + h < 2 ^ 32)
 address_same n h c e l = elim (dec_le n 127) [
   | yes a ↦ go class_a (network_a n a) λ k. (class_a_lem (n * 16777216 + h) (omega arith), omega arith)
   | no a ↦ elim (dec_lt n 32768) [
@@ -60,26 +60,26 @@ address_same n h c e l = elim (dec_le n 127) [
   ]
 ]
   where
-    go : (d : Class) → network_class n ≡ some d → (h ≤ d.host_most → (class_of (n * hosts d + h) ≡ some d) × (n * hosts d + h < 2 ^ 32))
-        → (class_of (n * hosts c + h) ≡ some c) × (n * hosts c + h < 2 ^ 32)
+    go : (d : Class) → network_class n ≡ Some d → (h ≤ d.host_most → (class_of (n * hosts d + h) ≡ Some d) × (n * hosts d + h < 2 ^ 32))
+        → (class_of (n * hosts c + h) ≡ Some c) × (n * hosts c + h < 2 ^ 32)
     go d p q = let s : d ≡ c = some_same (sym p ∙ e) in rw (← s) (q (rw s l))
 
 -- ---- there and back
 
-pub joins : (n h : ℕ) (c : Class) → network_class n ≡ some c → h ≤ c.host_most → join_answer n h ≡ gives (V4 (n * hosts c + h))
+pub joins : (n h : ℕ) (c : Class) → network_class n ≡ Some c → h ≤ c.host_most → join_answer n h ≡ gives (V4 (n * hosts c + h))
 unfolding refusal
 joins n h c e l = sym (join_class n h c e) ∙ rw (le-ltb c.host_most h l)
 
-pub too_large : (n h : ℕ) (c : Class) → network_class n ≡ some c → c.host_most < h → join_answer n h ≡ refuses no_address HostTooLarge
+pub too_large : (n h : ℕ) (c : Class) → network_class n ≡ Some c → c.host_most < h → join_answer n h ≡ refuses no_address HostTooLarge
 unfolding refusal
 too_large n h c e l = sym (join_class n h c e) ∙ rw (lt-ltb c.host_most h l)
 
-pub join_split : (v : ℕ) (c : Class) → class_of v ≡ some c → join_answer (v / hosts c) (v % hosts c) ≡ gives (V4 v)
+pub join_split : (v : ℕ) (c : Class) → class_of v ≡ Some c → join_answer (v / hosts c) (v % hosts c) ≡ gives (V4 v)
 join_split v c e =
     joins (v / hosts c) (v % hosts c) c (network_same v c e) (let m : v % hosts c < hosts c = mod-lt v (omega arith) in omega arith)
     ∙ ap (λ x. gives (V4 x)) (div-add-mod' v (hosts c))
 
-pub split_join : (n h : ℕ) (c : Class) → network_class n ≡ some c → h ≤ c.host_most → split_answer (V4 (n * hosts c + h)) ≡ gives (n, h)
+pub split_join : (n h : ℕ) (c : Class) → network_class n ≡ Some c → h ≤ c.host_most → split_answer (V4 (n * hosts c + h)) ≡ gives (n, h)
 split_join n h c e l =
     let s : h < hosts c = omega arith in
     sym (split_class (n * hosts c + h) c (address_same n h c e l).0) ∙ ap₂ (λ x y. gives (x, y)) (digits_div n s) (digits_mod n s)
@@ -87,25 +87,25 @@ split_join n h c e l =
 -- ---- what an answer says
 
 -- a split address has a class
-pub split_says : (v n h : ℕ) → split_answer (V4 v) ≡ gives (n, h) → (c : Class) × (class_of v ≡ some c) × (v / hosts c ≡ n) × (v % hosts c ≡ h)
+pub split_says : (v n h : ℕ) → split_answer (V4 v) ≡ gives (n, h) → (c : Class) × (class_of v ≡ Some c) × (v / hosts c ≡ n) × (v % hosts c ≡ h)
 unfolding split_answer
 split_says v n h e = go (class_of v) refl e
   where
     go : (o : Option Class) → class_of v ≡ o → answer (0, 0) (refusal precedence ((9, false) ∷ (6, missing o) ∷ [])) (network_host o v) ≡ gives (n, h)
-        → (c : Class) × (class_of v ≡ some c) × (v / hosts c ≡ n) × (v % hosts c ≡ h)
-    go none p q = let z : ◌≡◌ {A = ℕ} 6 0 = ap (λ r. r.number) q in absurd (omega arith)
-    go (some c) p q = (c, p, ap (λ r. r.fields.0) q, ap (λ r. r.fields.1) q)
+        → (c : Class) × (class_of v ≡ Some c) × (v / hosts c ≡ n) × (v % hosts c ≡ h)
+    go None p q = let z : ◌≡◌ {A = ℕ} 6 0 = ap (λ r. r.number) q in absurd (omega arith)
+    go (Some c) p q = (c, p, ap (λ r. r.fields.0) q, ap (λ r. r.fields.1) q)
 
 -- two numbers that join have a class, and the host number is in it
-pub join_says : (n h : ℕ) (a : Address) → join_answer n h ≡ gives a → (c : Class) × (network_class n ≡ some c) × (h ≤ c.host_most)
+pub join_says : (n h : ℕ) (a : Address) → join_answer n h ≡ gives a → (c : Class) × (network_class n ≡ Some c) × (h ≤ c.host_most)
 unfolding join_answer
 join_says n h a e = go (network_class n) refl e
   where
     go : (o : Option Class) → network_class n ≡ o → answer no_address (refusal precedence ((6, missing o) ∷ (7, host_too_large o h) ∷ [])) (host_address o n h) ≡ gives a
-        → (c : Class) × (network_class n ≡ some c) × (h ≤ c.host_most)
-    go none p q = let z : ◌≡◌ {A = ℕ} 6 0 = ap (λ r. r.number) q in absurd (omega arith)
-    go (some c) p q = (c, p, room (ltb c.host_most h) refl q)
+        → (c : Class) × (network_class n ≡ Some c) × (h ≤ c.host_most)
+    go None p q = let z : ◌≡◌ {A = ℕ} 6 0 = ap (λ r. r.number) q in absurd (omega arith)
+    go (Some c) p q = (c, p, room (ltb c.host_most h) refl q)
       where
-        room : (b : Bool) → ltb c.host_most h ≡ b → answer no_address (refusal precedence ((6, false) ∷ (7, b) ∷ [])) (host_address (some c) n h) ≡ gives a → h ≤ c.host_most
+        room : (b : Bool) → ltb c.host_most h ≡ b → answer no_address (refusal precedence ((6, false) ∷ (7, b) ∷ [])) (host_address (Some c) n h) ≡ gives a → h ≤ c.host_most
         room true r k = let z : ◌≡◌ {A = ℕ} 7 0 = ap (λ r. r.number) k in absurd (omega arith)
         room false r k = ltb-false c.host_most h r

@@ -1,7 +1,7 @@
 -- Splitting and joining by the columns of the table: what the call answers, and that every address and every pair has its row. Assumes nothing.
+use Rattle.std.specs.Prelude.{Some, None}
 use mathlib.Core.Path.{◌≡◌, refl, sym, ap, subst, ◌∙◌}
 use mathlib.Core.Logic.{◌⊎◌, inl, inr, ◌↔◌}
-use mathlib.Core.Option.{some, none}
 use Prim.Native.Nat.{ℕ, ◌+◌, ◌-◌, ◌*◌, ◌/◌, ◌%◌, ◌^◌, ◌≤◌, ◌<◌}
 use native.Mathlib.Decide.{dec_le, dec_lt}
 use native.Mathlib.Omega.{arith}
@@ -40,7 +40,7 @@ split_call (V6 hi lo) h = (refuses (0, 0) WrongFamily, not_ipv4)
 
 -- ---- joining
 
-pub row_class : {n most : ℕ} → Row n most → (c : Class) × (network_class n ≡ some c) × (c.host_most ≡ most)
+pub row_class : {n most : ℕ} → Row n most → (c : Class) × (network_class n ≡ Some c) × (c.host_most ≡ most)
 row_class (row_a {n} h) = (class_a, network_a n h, refl)
 row_class (row_b {n} l h) = (class_b, network_b n l h, refl)
 row_class (row_c {n} l h) = (class_c, network_c n l h, refl)
@@ -55,7 +55,7 @@ outside (row_b l h) a b c = b l h
 outside (row_c l h) a b c = c l h
 
 -- a network number has a row, or is of no class
-row : (n : ℕ) → ((most : ℕ) × Row n most) ⊎ ((network_class n ≡ none) × ((most : ℕ) → Row n most → ⊥))
+row : (n : ℕ) → ((most : ℕ) × Row n most) ⊎ ((network_class n ≡ None) × ((most : ℕ) → Row n most → ⊥))
 row n = elim (dec_le n 127) [
   | yes a ↦ inl (16777215, row_a a)
   | no a ↦ elim (dec_lt n 32768) [

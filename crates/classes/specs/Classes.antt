@@ -1,12 +1,10 @@
 -- Classes (01, "Classes"; document 003 and RFC 791): an IPv4 address as a network number and a host number. Assumes nothing.
-use Rattle.std.specs.Prelude.{Bool, true, false, ◌&&◌, List, [], ◌∷◌, ℕ, ◌+◌, ◌-◌, ◌*◌, ◌/◌, ◌%◌, ◌^◌, leb, ltb, eqb}
-use Rattle.std.proofs.Math.Option.{Option, some, none}
+use Rattle.address.specs.declared.Refusal.{Refusal}
+use Rattle.std.specs.Prelude.{Bool, true, false, ◌&&◌, List, [], ◌∷◌, ℕ, ◌+◌, ◌-◌, ◌*◌, ◌/◌, ◌%◌, ◌^◌, leb, ltb, eqb, Option, Some, None, Result}
 use Rattle.address.specs.declared.Address.{Address}
 use Rattle.address.specs.declared.Address.TheVariants.{V4}
 use Rattle.address.specs.Addresses.{family, number}
-use Rattle.address.specs.Answers.{precedence, Answer, answer, gives, refuses, missing, refusal, no_address}
-use Rattle.classes.specs.declared.Splitting.{Splitting}
-use Rattle.classes.specs.declared.Splitting.TheVariants.{NetworkHost, Refused}
+use Rattle.address.specs.Answers.{result_answer, precedence, Answer, answer, missing, refusal, no_address}
 
 -- a row of the table
 pub record Class : Type 0 where
@@ -33,8 +31,8 @@ table = class_a ∷ class_b ∷ class_c ∷ []
 
 -- the first row that passes a test
 unfoldable pub row_of : (Class → Bool) → List Class → Option Class
-row_of test [] = none
-row_of test (c ∷ cs) = elim (test c) [ true ↦ some c | false ↦ row_of test cs ]
+row_of test [] = None
+row_of test (c ∷ cs) = elim (test c) [ true ↦ Some c | false ↦ row_of test cs ]
 
 -- an address of 32 bits begins with the row's first bits
 abbrev pub begins : ℕ → Class → Bool
@@ -61,8 +59,8 @@ hosts c = c.host_most + 1
 
 -- "top byte", "top two bytes", "top three bytes" as the network number, and what is below them as the host number
 abbrev pub network_host : Option Class → ℕ → ℕ × ℕ
-network_host none v = (0, 0)
-network_host (some c) v = (v / hosts c, v % hosts c)
+network_host None v = (0, 0)
+network_host (Some c) v = (v / hosts c, v % hosts c)
 
 -- "an IPv6 address is handed to the class split", "an address beginning with bits 111 is to be split"
 unfoldable pub split_answer : Address → Answer (ℕ × ℕ)
@@ -73,20 +71,19 @@ split_answer a =
     (network_host (class_of (number a)) (number a))
 
 -- the code's answer in the paper's terms: the network number and the host number
-abbrev pub splitting_answer : Splitting → Answer (ℕ × ℕ)
-splitting_answer (NetworkHost network host) = gives (network, host)
-splitting_answer (Refused e) = refuses (0, 0) e
+abbrev pub splitting_answer : Result (ℕ × ℕ) Refusal → Answer (ℕ × ℕ)
+splitting_answer r = result_answer (0, 0) r
 
 -- ---- joining
 
 -- "the host number is too large for the class of its network number"
 abbrev pub host_too_large : Option Class → ℕ → Bool
-host_too_large none host = false
-host_too_large (some c) host = ltb c.host_most host
+host_too_large None host = false
+host_too_large (Some c) host = ltb c.host_most host
 
 abbrev pub host_address : Option Class → ℕ → ℕ → Address
-host_address none network host = no_address
-host_address (some c) network host = V4 (network * hosts c + host)
+host_address None network host = no_address
+host_address (Some c) network host = V4 (network * hosts c + host)
 
 -- "a network number lies in no class", then the host number, or the address
 unfoldable pub join_answer : ℕ → ℕ → Answer Address

@@ -6,53 +6,46 @@ ghost use Rattle.address.specs.Answers.{precedence, answer, no_address, reading_
 ghost use Rattle.address.specs.declared.Address.TheVariants.{V4};
 ghost use Rattle.classes.specs.Classes.{splitting_answer, split_answer, join_answer};
 
-use address::{Address, Reading, Refusal};
-
-// What splitting answers: the network number and the host number.
-#[derive(Clone, Copy)]
-pub enum Splitting {
-    NetworkHost(u32, u32),
-    Refused(Refusal),
-}
+use address::{Address, Refusal};
 
 // The network number and the host number of an IPv4 address. The class bits stay in the network number.
-pub fn split(address: Address) -> Splitting
+pub fn split(address: Address) -> Result<(u32, u32), Refusal>
     ensures { splitting_answer result ≡ split_answer address }
 {
     let Address::V4(v) = address else {
-        return Splitting::Refused(Refusal::WrongFamily);
+        return Err(Refusal::WrongFamily);
     };
     if v < 0x8000_0000 {
-        return Splitting::NetworkHost(v / 16777216, v % 16777216);
+        return Ok((v / 16777216, v % 16777216));
     }
     if v < 0xc000_0000 {
-        return Splitting::NetworkHost(v / 65536, v % 65536);
+        return Ok((v / 65536, v % 65536));
     }
     if v < 0xe000_0000 {
-        return Splitting::NetworkHost(v / 256, v % 256);
+        return Ok((v / 256, v % 256));
     }
-    Splitting::Refused(Refusal::NoClass)
+    Err(Refusal::NoClass)
 }
 
 // The address of a host in a network whose largest host number is `most`.
-fn host_address(network: u32, host: u32, most: u32) -> Reading
+fn host_address(network: u32, host: u32, most: u32) -> Result<Address, Refusal>
     requires { (most < 2 ^ 24) × (network * (most + 1) + most < 2 ^ 32) }
     ensures { reading_answer result ≡ answer no_address (refusal precedence ((7, ltb most host) ∷ [])) (V4 (network * (most + 1) + host)) }
 {
     if most < host {
-        return Reading::Refused(Refusal::HostTooLarge);
+        return Err(Refusal::HostTooLarge);
     }
-    Reading::Read(Address::V4(network * (most + 1) + host))
+    Ok(Address::V4(network * (most + 1) + host))
 }
 
 // The address that a network number and a host number of its class make.
-pub fn join(network: u32, host: u32) -> Reading
+pub fn join(network: u32, host: u32) -> Result<Address, Refusal>
     ensures { reading_answer result ≡ join_answer network host }
 {
     match network {
         0..=127 => host_address(network, host, 16777215),
         32768..=49151 => host_address(network, host, 65535),
         12582912..=14680063 => host_address(network, host, 255),
-        _ => Reading::Refused(Refusal::NoClass),
+        _ => Err(Refusal::NoClass),
     }
 }

@@ -1,14 +1,13 @@
 -- What is claimed of numbers in text: digits that are read, and numerals (01, "Strict text" and "Normal text"). Assumes nothing.
+use Rattle.std.specs.Prelude.{Option, Some, None}
 use mathlib.Core.Path.{◌≡◌, sym, ap, ◌∙◌}
 use mathlib.Core.Bool.{true, false, ◌&&◌, ◌||◌}
 use mathlib.Core.List.{List, map}
-use mathlib.Core.Option.{Option, some, none}
 use Prim.Native.Nat.{ℕ, ◌^◌, ◌≤◌, ◌<◌}
 use lib.Dec.{eqb}
 use lib.ListN.{length, get_or}
 use Rattle.notation.specs.BigEndian.{number_of}
 use Rattle.notation.proofs.OptionLaws.{same_value}
-use Rattle.digits.specs.declared.read.Leading.TheVariants.{Number, Nothing}
 use Rattle.digits.specs.Numerals.{digit_of, all_digits, text_number, leading_zero, part_of, group_of, hex_marked, leading, numeral, decimal, hex, lower}
 use Rattle.digits.proofs.NumeralLaws as numerals
 use Rattle.digits.proofs.OneSpellingLaws as spelling
@@ -31,11 +30,11 @@ module _ (base k n : ℕ) (h : base ≤ 16) (pos : 0 < base) (one : 1 ≤ k) whe
   pub numeral_leading : leading_zero (numeral base k n) ≡ false
   numeral_leading = numerals.numeral_leading base k n h pos one
 
-  pub numeral_read : n < base ^ k → text_number base (numeral base k n) ≡ some n
+  pub numeral_read : n < base ^ k → text_number base (numeral base k n) ≡ Some n
   numeral_read = numerals.numeral_read base k n h pos one
 
 -- There is no other text of at most k digits in lower case with no leading zero that is read as the number.
-pub numeral_spelling : (base k : ℕ) → base ≤ 16 → 0 < base → (t : List ℕ) (n : ℕ) → text_number base t ≡ some n
+pub numeral_spelling : (base k : ℕ) → base ≤ 16 → 0 < base → (t : List ℕ) (n : ℕ) → text_number base t ≡ Some n
     → length t ≤ k → leading_zero t ≡ false → map lower t ≡ t → numeral base k n ≡ t
 numeral_spelling base k h pos t n e short lead low =
     let d = numerals.read_digits base t n e in
@@ -46,17 +45,17 @@ numeral_spelling base k h pos t n e short lead low =
 
 -- "A part is 0 to 255 in decimal digits with no leading zero": the decimal of a number is a part, and is read as the number; and so is a
 -- size, up to its own limit m.
-pub decimal_part : (m n : ℕ) → n ≤ m → n < 1000 → part_of m (decimal n) ≡ some n
+pub decimal_part : (m n : ℕ) → n ≤ m → n < 1000 → part_of m (decimal n) ≡ Some n
 decimal_part = numerals.decimal_part
 
-pub part_most : (m : ℕ) (t : List ℕ) (n : ℕ) → part_of m t ≡ some n → n ≤ m
+pub part_most : (m : ℕ) (t : List ℕ) (n : ℕ) → part_of m t ≡ Some n → n ≤ m
 part_most = pieces.part_most
 
 -- "one to four hex digits": the hex digits of a number are a group, and are read as the number.
-pub hex_group : (n : ℕ) → n < 65536 → group_of (hex n) ≡ some n
+pub hex_group : (n : ℕ) → n < 65536 → group_of (hex n) ≡ Some n
 hex_group = numerals.hex_group
 
-pub group_most : (t : List ℕ) (n : ℕ) → group_of t ≡ some n → n < 65536
+pub group_most : (t : List ℕ) (n : ℕ) → group_of t ≡ Some n → n < 65536
 group_most t n e = (numerals.group_digits t n e).1
 
 -- "either case": a digit has the same value in lower case.
@@ -67,15 +66,15 @@ either_case = numerals.lower_digit
 
 -- "The text after the slash is read as a part of its own": what is read of all the digits that a text begins with tells what the whole text
 -- is read as, by any f that reads nothing but digits: the same where they are the whole text, else nothing.
-module _ (base : ℕ) (f : List ℕ → Option ℕ) (only : (p : List ℕ) (v : ℕ) → f p ≡ some v → all_digits base p ≡ true) (t : List ℕ) where
-  pub whole_nothing : Nothing ≡ leading base f t → f t ≡ none
+module _ (base : ℕ) (f : List ℕ → Option ℕ) (only : (p : List ℕ) (v : ℕ) → f p ≡ Some v → all_digits base p ≡ true) (t : List ℕ) where
+  pub whole_nothing : None ≡ leading base f t → f t ≡ None
   whole_nothing = pieces.whole_nothing base f only t
 
-  module _ (v n : ℕ) (h : Number v n ≡ leading base f t) where
-    pub whole_short : n < length t → f t ≡ none
+  module _ (v n : ℕ) (h : Some (v, n) ≡ leading base f t) where
+    pub whole_short : n < length t → f t ≡ None
     whole_short = pieces.whole_short base f only t v n h
 
-    pub whole_number : length t ≤ n → (f t ≡ some v) × (n ≡ length t)
+    pub whole_number : length t ≤ n → (f t ≡ Some v) × (n ≡ length t)
     whole_number = pieces.whole_number base f only t v n h
 
 -- ---- the mark of a hexadecimal number

@@ -1,8 +1,8 @@
 -- Groups among the digits that a text begins with. Assumes nothing.
+use Rattle.std.specs.Prelude.{Some, None}
 use mathlib.Core.Path.{◌≡◌, refl, sym, ap, subst, ◌∙◌}
 use mathlib.Core.Bool.{Bool, true, false, cond}
 use mathlib.Core.List.{List, map}
-use mathlib.Core.Option.{some}
 use Prim.Native.Nat.{ℕ, suc, ◌+◌, ◌-◌, ◌*◌, ◌/◌, ◌^◌, ◌≤◌, ◌<◌}
 use native.Mathlib.Decide.{dec_lt}
 use native.Mathlib.Omega.{arith}
@@ -11,7 +11,6 @@ use lib.Dec.{ltb}
 use lib.ListN.{length, take, drop, get_or, get_or-eq_default}
 use lib.Seq.{length-take-le}
 use Rattle.notation.specs.BigEndian.{number_of}
-use Rattle.digits.specs.declared.read.Leading.TheVariants.{Number, Nothing}
 use Rattle.digits.specs.Numerals.{digit_of, text_number, group_of, digit_count, leading}
 use Rattle.digits.specs.Bytes.{first_four, nibble_of}
 use Rattle.digits.proofs.LeadingLaws.{Scan, scan_start, scan_more, scan_stop, stop_byte, stop_end, lead_number, lead_empty, count_le}
@@ -41,19 +40,19 @@ module _ (t : List ℕ) where
 
   -- ---- groups
 
-  group_none : 16 ≤ at 0 → Nothing ≡ leading 16 group_of t
+  group_none : 16 ≤ at 0 → None ≡ leading 16 group_of t
   unfolding group_of
   group_none h = lead_empty 16 t group_of refl (stop 0 h)
 
-  group_is : (v i : ℕ) → Scan 16 t v i → 16 ≤ at i → 1 ≤ i → i ≤ 4 → Number v i ≡ leading 16 group_of t
+  group_is : (v i : ℕ) → Scan 16 t v i → 16 ≤ at i → 1 ≤ i → i ≤ 4 → Some (v, i) ≡ leading 16 group_of t
   unfolding leading group_of
   group_is v i s z p q =
       let st = scan_stop 16 t v i s (stop i z) in
       let long = length-take-le (digit_count 16 t) t (count_le 16 t) in
-      let number : text_number 16 (take (digit_count 16 t) t) ≡ some v = lead_number 16 t (omega (arith, st.0)) ∙ ap some st.1 in
+      let number : text_number 16 (take (digit_count 16 t) t) ≡ Some v = lead_number 16 t (omega (arith, st.0)) ∙ ap Some st.1 in
       sym (rw (le-ltb 4 (length (take (digit_count 16 t) t)) (omega (arith, long, st.0)), number, st.0))
 
-  group_long : (v : ℕ) → Scan 16 t v 4 → at 4 < 16 → Nothing ≡ leading 16 group_of t
+  group_long : (v : ℕ) → Scan 16 t v 4 → at 4 < 16 → None ≡ leading 16 group_of t
   unfolding leading group_of
   group_long v s h =
       let five = more s h in
@@ -118,10 +117,10 @@ module _ (t : List ℕ) where
             (record { few = omega arith; scan = more (more (more (more (scan_start 16 t) a) b) c) d; next = λ l. absurd (omega arith) })
             (omega (arith, written, nib_is 0 a, nib_is 1 b, nib_is 2 c, nib_is 3 d))
 
-    pub no_group : n ≡ 0 → Nothing ≡ leading 16 group_of t
+    pub no_group : n ≡ 0 → None ≡ leading 16 group_of t
     no_group z = let h : 16 ≤ at n = found.next (omega arith) in group_none (rw z at h)
 
-    pub some_group : (n ≡ 0 → ⊥) → n ≤ 3 → Number (x / 2 ^ (16 - 4 * n)) n ≡ leading 16 group_of t
+    pub some_group : (n ≡ 0 → ⊥) → n ≤ 3 → Some (x / 2 ^ (16 - 4 * n), n) ≡ leading 16 group_of t
     some_group z l = group_is (x / 2 ^ (16 - 4 * n)) n found.scan (found.next (omega arith)) (omega arith) found.few
 
     module _ (full : 3 < n) where
@@ -131,8 +130,8 @@ module _ (t : List ℕ) where
           let v : x / 2 ^ (16 - 4 * 4) ≡ x = omega arith in
           subst (λ v. Scan 16 t v 4) v (rw e at found.scan)
 
-      pub fifth_digit : at 4 < 16 → Nothing ≡ leading 16 group_of t
+      pub fifth_digit : at 4 < 16 → None ≡ leading 16 group_of t
       fifth_digit h = group_long x four h
 
-      pub four_digits : 16 ≤ at 4 → Number x 4 ≡ leading 16 group_of t
+      pub four_digits : 16 ≤ at 4 → Some (x, 4) ≡ leading 16 group_of t
       four_digits h = group_is x 4 four h (omega arith) (omega arith)

@@ -1,8 +1,8 @@
 -- Decimal parts at the start of a text, and a leading zero by its first two bytes. Assumes nothing.
+use Rattle.std.specs.Prelude.{Some, None}
 use mathlib.Core.Path.{◌≡◌, refl, sym, ap, subst, ◌∙◌}
 use mathlib.Core.Bool.{Bool, true, false, cond, ◌||◌, or-true}
 use mathlib.Core.List.{List, [], ◌∷◌}
-use mathlib.Core.Option.{some}
 use Prim.Native.Nat.{ℕ, suc, ◌+◌, ◌-◌, ◌*◌, ◌≤◌, ◌<◌}
 use native.Mathlib.Nat.{add-zero}
 use native.Mathlib.Decide.{dec_le}
@@ -13,7 +13,6 @@ use lib.ListN.{length, take, drop, get_or, length-take, length-drop, drop_of_len
 use lib.Seq.{drop-cons, get_or-drop, get_or-take, length-take-le}
 use Rattle.notation.specs.Ascii.{within}
 use Rattle.notation.proofs.AsciiLaws.{within_exactly}
-use Rattle.digits.specs.declared.read.Leading.TheVariants.{Nothing}
 use Rattle.digits.specs.Numerals.{digit_of, text_number, at_most, leading_zero, part_of, digit_count, as_leading, leading}
 use Rattle.digits.specs.Decimals.{decimal_of}
 use Rattle.digits.proofs.LeadingLaws.{Scan, scan_start, scan_more, scan_stop, lead_number, lead_empty, count_le}
@@ -135,20 +134,20 @@ module _ (t : List ℕ) where
   ]
 
   module _ (most : ℕ) where
-    pub part_none : 9 < decimal_of t → Nothing ≡ leading 10 (part_of most) t
+    pub part_none : 9 < decimal_of t → None ≡ leading 10 (part_of most) t
     unfolding part_of
     part_none h = lead_empty 10 t (part_of most) refl (no_start t h)
 
-    refused : leading_zero (take (digit_count 10 t) t) || ltb 3 (length (take (digit_count 10 t) t)) ≡ true → Nothing ≡ leading 10 (part_of most) t
+    refused : leading_zero (take (digit_count 10 t) t) || ltb 3 (length (take (digit_count 10 t) t)) ≡ true → None ≡ leading 10 (part_of most) t
     unfolding leading part_of
     refused e = sym (rw e)
 
-    pub part_number : (v i : ℕ) → Scan 10 t v i → 9 < decimal_of (drop i t) → 1 ≤ i → i ≤ 3 → (2 ≤ i → 1 ≤ decimal_of t) → as_leading (at_most most (some v)) i ≡ leading 10 (part_of most) t
+    pub part_number : (v i : ℕ) → Scan 10 t v i → 9 < decimal_of (drop i t) → 1 ≤ i → i ≤ 3 → (2 ≤ i → 1 ≤ decimal_of t) → as_leading (at_most most (Some v)) i ≡ leading 10 (part_of most) t
     unfolding leading part_of
     part_number v i s z p q first =
         let st = scan_stop 10 t v i s (no_start (drop i t) z) in
         let long = length-take-le (digit_count 10 t) t (count_le 10 t) in
-        let number : text_number 10 (take (digit_count 10 t) t) ≡ some v = lead_number 10 t (omega (arith, st.0)) ∙ ap some st.1 in
+        let number : text_number 10 (take (digit_count 10 t) t) ≡ Some v = lead_number 10 t (omega (arith, st.0)) ∙ ap Some st.1 in
         let allowed : (leading_zero (take (digit_count 10 t) t) || ltb 3 (length (take (digit_count 10 t) t))) ≡ false = rw (no_zero v i s p first st.0, le-ltb 3 (length (take (digit_count 10 t) t)) (omega (arith, long, st.0))) in
         sym (rw (allowed, number, st.0))
 
@@ -157,30 +156,30 @@ module _ (t : List ℕ) where
       one : Scan 10 t a 1
       one = subst (λ v. Scan 10 t v 1) (sym ea) (decimal_first (omega (arith, ea)))
 
-      pub part_one : 9 < decimal_of (drop 1 t) → as_leading (at_most most (some a)) 1 ≡ leading 10 (part_of most) t
+      pub part_one : 9 < decimal_of (drop 1 t) → as_leading (at_most most (Some a)) 1 ≡ leading 10 (part_of most) t
       part_one z = part_number a 1 one z (omega arith) (omega arith) (λ h. absurd (omega arith))
 
       module _ (b : ℕ) (eb : b ≡ decimal_of (drop 1 t)) (lb : b ≤ 9) where
         two : Scan 10 t (a * 10 + b) 2
         two = subst (λ d. Scan 10 t (a * 10 + d) 2) (sym eb) (decimal_more a 1 one (omega (arith, eb)))
 
-        pub part_zero : a < 1 → Nothing ≡ leading 10 (part_of most) t
+        pub part_zero : a < 1 → None ≡ leading 10 (part_of most) t
         part_zero z =
             let st = starts t (omega (arith, ea)) in
             refused (rw (zero_long (digit_count 10 t) t (decimal_count (a * 10 + b) 2 two) (count_le 10 t), eq-eqb (get_or t 0 0) 48 (digit_zero (get_or t 0 0) (omega (arith, st.1, ea)))))
 
         module _ (pos : 1 ≤ a) where
-          part_two : 9 < decimal_of (drop 2 t) → as_leading (at_most most (some (a * 10 + b))) 2 ≡ leading 10 (part_of most) t
+          part_two : 9 < decimal_of (drop 2 t) → as_leading (at_most most (Some (a * 10 + b))) 2 ≡ leading 10 (part_of most) t
           part_two z = part_number (a * 10 + b) 2 two z (omega arith) (omega arith) (λ h. omega (arith, ea))
 
           module _ (c : ℕ) (ec : c ≡ decimal_of (drop 2 t)) (lc : c ≤ 9) where
             three : Scan 10 t ((a * 10 + b) * 10 + c) 3
             three = subst (λ d. Scan 10 t ((a * 10 + b) * 10 + d) 3) (sym ec) (decimal_more (a * 10 + b) 2 two (omega (arith, ec)))
 
-            part_three : 9 < decimal_of (drop 3 t) → as_leading (at_most most (some ((a * 10 + b) * 10 + c))) 3 ≡ leading 10 (part_of most) t
+            part_three : 9 < decimal_of (drop 3 t) → as_leading (at_most most (Some ((a * 10 + b) * 10 + c))) 3 ≡ leading 10 (part_of most) t
             part_three z = part_number ((a * 10 + b) * 10 + c) 3 three z (omega arith) (omega arith) (λ h. omega (arith, ea))
 
-            part_long : decimal_of (drop 3 t) ≤ 9 → Nothing ≡ leading 10 (part_of most) t
+            part_long : decimal_of (drop 3 t) ≤ 9 → None ≡ leading 10 (part_of most) t
             part_long l =
                 let more = decimal_count _ 4 (decimal_more ((a * 10 + b) * 10 + c) 3 three l) in
                 let long = lt-ltb 3 (length (take (digit_count 10 t) t)) (omega (arith, more, length-take-le (digit_count 10 t) t (count_le 10 t))) in
@@ -188,13 +187,13 @@ module _ (t : List ℕ) where
 
           -- two or three of them, and the digit behind
           module _ (c : ℕ) (ec : c ≡ decimal_of (drop 2 t)) (n : ℕ) (en : n ≡ cond (leb c 9) 3 2) where
-            pub part_four : decimal_of (drop n t) ≤ 9 → Nothing ≡ leading 10 (part_of most) t
+            pub part_four : decimal_of (drop n t) ≤ 9 → None ≡ leading 10 (part_of most) t
             part_four h = elim (dec_le c 9) [
               | yes l ↦ let e : n ≡ 3 = rw (le-leb c 9 l) at en in part_long c ec l (subst (λ k. decimal_of (drop k t) ≤ 9) e h)
               | no f ↦ let e : n ≡ 2 = rw (lt-leb c 9 (omega arith)) at en in absurd (omega (arith, ec, ap (λ k. decimal_of (drop k t)) e))
             ]
 
-            pub part_more : 9 < decimal_of (drop n t) → as_leading (at_most most (some (cond (leb c 9) ((a * 10 + b) * 10 + c) (a * 10 + b)))) n ≡ leading 10 (part_of most) t
+            pub part_more : 9 < decimal_of (drop n t) → as_leading (at_most most (Some (cond (leb c 9) ((a * 10 + b) * 10 + c) (a * 10 + b)))) n ≡ leading 10 (part_of most) t
             part_more h = elim (dec_le c 9) [
               | yes l ↦ let e : n ≡ 3 = rw (le-leb c 9 l) at en in rw (le-leb c 9 l, e) (part_three c ec l (subst (λ k. 9 < decimal_of (drop k t)) e h))
               | no f ↦ let e : n ≡ 2 = rw (lt-leb c 9 (omega arith)) at en in rw (lt-leb c 9 (omega arith), e) (part_two (subst (λ k. 9 < decimal_of (drop k t)) e h))

@@ -4,16 +4,13 @@ ghost use Rattle.notation.specs.BigEndian.{number_of};
 ghost use Rattle.digits.specs.Numerals.{group_of, leading};
 ghost use Rattle.digits.specs.Bytes.{bytes_of, first_four, flag_of, nibble_of};
 
-use crate::read::{Leading, digit_value};
+use crate::read::digit_value;
 
 // The byte at an index, or 0 where there is none.
 fn byte_at(text: &[u8], at: usize) -> u8
     ensures { result ≡ get_or text.now at 0 }
 {
-    if text.len() <= at {
-        return 0;
-    }
-    text[at]
+    text.get(at).copied().unwrap_or(0)
 }
 
 // Four bytes as one number, the first of them lowest.
@@ -60,19 +57,19 @@ fn packed(w: u32) -> u32
 }
 
 // One to four hex digits. Four have a branch of their own, so that the next group need not wait for the count.
-pub fn leading_group(text: &[u8]) -> Leading
+pub fn leading_group(text: &[u8]) -> Option<(u32, usize)>
     ensures { result ≡ leading 16 group_of text.now }
 {
     let w = first_four(text);
     let count = u32::trailing_zeros(flags(w)) / 8;
     if 3 < count {
         if digit_value(byte_at(text, 4)) < 16 {
-            return Leading::Nothing;
+            return None;
         }
-        return Leading::Number(packed(w), 4);
+        return Some((packed(w), 4));
     }
     if count == 0 {
-        return Leading::Nothing;
+        return None;
     }
-    Leading::Number(packed(w) >> (16 - 4 * count), count as usize)
+    Some((packed(w) >> (16 - 4 * count), count as usize))
 }

@@ -25,9 +25,15 @@ use Rattle.octets.proofs.OctetLaws.{read_4, read_6}
 use Rattle.records.specs.Records.{record_size, read_record}
 use Rattle.record_lists.specs.Inner.{IsSize, size_width}
 use Rattle.record_lists.proofs.ListLaws.{size_back}
-use Rattle.gather.specs.Inner.{numbers, record_at, InList}
+use Rattle.gather.specs.declared.Family.{Family}
+use Rattle.gather.specs.declared.Family.TheVariants.{V4, V6}
+use Rattle.gather.specs.Inner.{size_of, numbers, record_at, InList}
 
 -- ---- sizes
+
+pub is_size : (f : Family) → IsSize (size_of f)
+is_size V4 = inl refl
+is_size V6 = inr refl
 
 pub size_octets : {size : ℕ} → IsSize size → size_width size / 8 ≡ size - 1
 size_octets {size} s = elim s [ inl e ↦ omega arith | inr e ↦ omega arith ]
@@ -146,6 +152,3 @@ module _ {size : ℕ} (s : size ≡ 5) (a : Wide) (n : ℕ) (B : IsBlock (size_w
 
   pub last_4 : 0 * 2 ^ 64 + (a.lo + (1 * 2 ^ (32 - n) % 2 ^ 64 - 1)) ≡ after (size_width size) (numbers a n) - 1
   last_4 = subst (λ (W : ℕ). 0 * 2 ^ 64 + (a.lo + (1 * 2 ^ (32 - n) % 2 ^ 64 - 1)) ≡ value a + 2 ^ (W - n) - 1) (sym width_4) (omega (arith, free, pow_pos (32 - n), low_value s a B.below))
-
-pub other_size : {size : ℕ} → IsSize size → ¬ (size ≡ 5) → size ≡ 17
-other_size s n = elim s [ inl e ↦ absurd (n e) | inr e ↦ e ]

@@ -1,4 +1,5 @@
 -- The gaps between the blocks in order, for the loop's invariant. Assumes nothing.
+use Rattle.std.specs.Prelude.{Ok, Err}
 use mathlib.Core.Path.{◌≡◌, refl, sym, ap, ap₂, subst, ◌∙◌}
 use mathlib.Core.Logic.{inl, inr}
 use mathlib.Core.Bool.{Bool, true, false, false≢true}
@@ -22,7 +23,6 @@ use Rattle.address.specs.Answers.{write_refusal}
 use Rattle.address.proofs.AnswerLaws.{answer_refuses, room_less, write_short}
 use Rattle.output.specs.Placing.{Puts, PutsAll}
 use Rattle.output.proofs.PlacingLaws.{puts_none, puts_then, puts_length, all_room}
-use Rattle.records.specs.declared.BlocksWriting.TheVariants.{Wrote, Refused}
 use Rattle.records.specs.Records.{read_records, records_of}
 use Rattle.records.proofs.RecordLaws.{records_length}
 use Rattle.record_lists.specs.Inner.{IsSize, size_width}
@@ -249,7 +249,7 @@ module _ {size n : ℕ} {bytes xs : List ℕ} (L : Listed size n bytes) (O : InO
 -- ---- counted first, and then put
 
 module _ {size : ℕ} (s : IsSize size) (bs : List Block) (old mid : List ℕ) (n : ℕ) (counted : PutsIf false old mid 0 n (records_of (size_width size) bs)) where
-  pub gaps_short : length mid < n → WritesBlocks (size_width size) bs old (Refused NoRoom) mid
+  pub gaps_short : length mid < n → WritesBlocks (size_width size) bs old (Err NoRoom) mid
   gaps_short h =
       let records = records_of (size_width size) bs in
       let less : length old < length records = omega (arith, h, counted.index, ap length counted.buffer) in
@@ -260,11 +260,11 @@ module _ {size : ℕ} (s : IsSize size) (bs : List Block) (old mid : List ℕ) (
     pub gaps_fit : length (records_of (size_width size) bs) ≤ length mid
     gaps_fit = omega (arith, h, counted.index)
 
-    pub gaps_written : (now : List ℕ) (k : ℕ) → PutsIf true mid now 0 k (records_of (size_width size) bs) → WritesBlocks (size_width size) bs old (Wrote (n / size) n) now
+    pub gaps_written : (now : List ℕ) (k : ℕ) → PutsIf true mid now 0 k (records_of (size_width size) bs) → WritesBlocks (size_width size) bs old (Ok (n / size, n)) now
     gaps_written now k p =
         let q = puts_if (omega (arith, gaps_fit)) p in
         let same : k ≡ n = omega (arith, p.index, counted.index) in
-        subst (λ l. WritesBlocks (size_width size) bs l (Wrote (n / size) n) now) counted.buffer (wrote_put s bs mid n now (subst (λ (m : ℕ). Puts mid now 0 m (records_of (size_width size) bs)) same q) gaps_fit)
+        subst (λ l. WritesBlocks (size_width size) bs l (Ok (n / size, n)) now) counted.buffer (wrote_put s bs mid n now (subst (λ (m : ℕ). Puts mid now 0 m (records_of (size_width size) bs)) same q) gaps_fit)
 
 -- ---- room for any list
 
@@ -283,7 +283,7 @@ ample_fits {size} {n} {bytes} L room h =
 
 pub ample_written : {size n : ℕ} {bytes : List ℕ} → Listed size n bytes → (old now : List ℕ) (k : ℕ) → most_uncovered size n ≤ length old
     → PutsIf true old now 0 k (records_of (size_width size) (uncovered_blocks (size_width size) (read_records (size_width size) n bytes)))
-    → WritesBlocks (size_width size) (uncovered_blocks (size_width size) (read_records (size_width size) n bytes)) old (Wrote (k / size) k) now
+    → WritesBlocks (size_width size) (uncovered_blocks (size_width size) (read_records (size_width size) n bytes)) old (Ok (k / size, k)) now
 ample_written {size} {n} {bytes} L old now k h p =
     let room = ample_fits L (length old) h in
     wrote_put L.sized (uncovered_blocks (size_width size) (read_records (size_width size) n bytes)) old k now (puts_if (omega (arith, room)) p) room

@@ -2,7 +2,7 @@
 use mathlib.Core.Path.{◌≡◌, refl, sym, ap, ap₂, subst, ◌∙◌}
 use mathlib.Core.Bool.{true}
 use mathlib.Core.List.{List, [], ◌∷◌, ◌++◌, append_assoc, append-nil}
-use Prim.Native.Nat.{ℕ, suc, ◌+◌, ◌-◌, ◌*◌, ◌^◌, ◌≤◌, ◌<◌, min, max}
+use Prim.Native.Nat.{ℕ, suc, ◌+◌, ◌-◌, ◌^◌, ◌≤◌, ◌<◌, min, max}
 use native.Mathlib.Omega.{arith}
 use lib.ListN.{length}
 use lib.Pow.{pow_mono}
@@ -101,9 +101,6 @@ pub one_before : (first one less : ℕ) → less ≡ first - one → one ≡ 1 �
 one_before first one less e o = omega arith
 
 -- ---- the last address of all
-
-pub top_is : {size : ℕ} → IsSize size → (r : ℕ) → r ≡ 2 ^ min ((size - 1) * 8) 128 - 1 → r ≡ 2 ^ size_width size - 1
-top_is {size} s r e = let w : min ((size - 1) * 8) 128 ≡ size_width size = omega (arith, size_most s) in e ∙ ap (λ (k : ℕ). 2 ^ k - 1) w
 
 under : (x p q : ℕ) → x < p - 1 → p ≤ q → x < q - 1
 under x p q h l = omega arith

@@ -1,4 +1,5 @@
 -- Records that are put or stored, in the paper's terms. Assumes nothing.
+use Rattle.std.specs.Prelude.{Ok, Err, Result}
 use mathlib.Core.Path.{◌≡◌, refl, sym, ap, ap₂, subst, ◌∙◌}
 use mathlib.Core.Bool.{Bool}
 use mathlib.Core.List.{List, ◌++◌}
@@ -12,8 +13,6 @@ use Rattle.address.specs.Answers.{Answer, gives, refuses, answer, write_refusal,
 use Rattle.address.proofs.AnswerLaws.{answer_gives, answer_refuses, write_fits}
 use Rattle.output.specs.Placing.{Puts}
 use Rattle.output.proofs.PlacingLaws.{puts_room, puts_whole}
-use Rattle.records.specs.declared.BlocksWriting.{BlocksWriting}
-use Rattle.records.specs.declared.BlocksWriting.TheVariants.{Wrote, Refused}
 use Rattle.records.specs.Records.{record_size, read_records, records_of, blocks_writing_answer}
 use Rattle.records.proofs.RecordLaws.{records_length}
 use Rattle.record_lists.specs.RecordLists.{family_width, list_blocks, is_rising, list_answer}
@@ -43,7 +42,7 @@ module _ {size : ℕ} (s : IsSize size) (bs : List Block) where
     counted n e z = ap₂ (λ (a b : ℕ). gives {A = ℕ × ℕ} (a, b)) (count n e) e ∙ answer_gives (0, 0) (length bs, length records) (write_refusal 0 records old) z
 
     -- put where they have room
-    pub wrote_put : (n : ℕ) (now : List ℕ) → Puts old now 0 n records → length records ≤ length old → WritesBlocks W bs old (Wrote (n / size) n) now
+    pub wrote_put : (n : ℕ) (now : List ℕ) → Puts old now 0 n records → length records ≤ length old → WritesBlocks W bs old (Ok (n / size, n)) now
     unfolding write_answer
     wrote_put n now p h =
         let (e, l) = puts_room p (omega arith) in
@@ -55,13 +54,13 @@ module _ {size : ℕ} (s : IsSize size) (bs : List Block) where
       pub stored_text : take n filled ≡ records
       stored_text = (puts_whole p h).1
 
-      pub wrote_stored : (k : ℕ) (now : List ℕ) → gives k ≡ write_answer 0 (take n filled) old → now ≡ write_leaves 0 (take n filled) old → WritesBlocks W bs old (Wrote (n / size) n) now
+      pub wrote_stored : (k : ℕ) (now : List ℕ) → gives k ≡ write_answer 0 (take n filled) old → now ≡ write_leaves 0 (take n filled) old → WritesBlocks W bs old (Ok (n / size, n)) now
       unfolding write_answer
       wrote_stored k now a l =
           let z = sym (ap (λ (r : Answer ℕ). r.number) (a ∙ ap (λ t. write_answer 0 t old) stored_text)) in
           record { answers = counted n (puts_whole p h).0 z; leaves = l ∙ ap (λ t. write_leaves 0 t old) stored_text }
 
-      pub refused_stored : (e : Refusal) (now : List ℕ) → refuses 0 e ≡ write_answer 0 (take n filled) old → now ≡ write_leaves 0 (take n filled) old → WritesBlocks W bs old (Refused e) now
+      pub refused_stored : (e : Refusal) (now : List ℕ) → refuses 0 e ≡ write_answer 0 (take n filled) old → now ≡ write_leaves 0 (take n filled) old → WritesBlocks W bs old (Err e) now
       unfolding write_answer
       refused_stored e now a l =
           let z = ap (λ (r : Answer ℕ). r.number) (a ∙ ap (λ t. write_answer 0 t old) stored_text) in
@@ -91,7 +90,7 @@ module _ (f : ℕ) (bytes : List ℕ) (old : List ℕ) where
     list_rises = good_rises f bytes n rises h ∙ ap is_rising blocks_are
 
     -- and what it writes
-    pub list_written : (make : ℕ → List Block → List Block) (r : BlocksWriting) (now : List ℕ)
+    pub list_written : (make : ℕ → List Block → List Block) (r : Result (ℕ × ℕ) Refusal) (now : List ℕ)
         → WritesBlocks (size_width size) (make (size_width size) (read_records (size_width size) n bytes)) old r now
         → (blocks_writing_answer r ≡ blocks_answer f bytes (make (family_width f) (list_blocks f bytes)) old) × (now ≡ blocks_leave f bytes (make (family_width f) (list_blocks f bytes)) old)
     unfolding blocks_answer blocks_leave

@@ -1,17 +1,31 @@
 -- Definitions for the contracts of private functions. Assumes nothing.
-use Rattle.std.specs.Prelude.{◌≡◌, ◌⊎◌, Bool, true, false, cond, List, [], ◌∷◌, ℕ, zero, suc, ◌+◌, ◌-◌, ◌*◌, ◌^◌, ◌≤◌, ◌<◌, eqb, length, drop, get_or}
+use Rattle.address.specs.declared.Refusal.{Refusal}
+use Rattle.std.specs.Prelude.{◌≡◌, ◌⊎◌, Bool, true, false, cond, List, [], ◌∷◌, ℕ, zero, suc, ◌+◌, ◌-◌, ◌*◌, ◌^◌, ◌≤◌, ◌<◌, eqb, length, drop, get_or, Result}
 use Rattle.wide.specs.declared.Wide.{Wide}
 use Rattle.wide.specs.Value.{value}
 use Rattle.cover.specs.Blocks.{Block, AllBlocks, Rising, range_blocks, after}
 use Rattle.lists.specs.Lists.{SameMembers}
 use Rattle.output.specs.Placing.{placed, Puts}
 use Rattle.address.specs.Answers.{answer, write_refusal, write_leaves}
-use Rattle.records.specs.declared.BlocksWriting.{BlocksWriting}
 use Rattle.records.specs.Records.{record_size, read_record, read_records, records_of, blocks_writing_answer}
 use Rattle.record_lists.specs.RecordLists.{most_records}
 use Rattle.record_lists.specs.Inner.{IsSize, size_width}
+use Rattle.gather.specs.declared.Family.{Family}
+use Rattle.gather.specs.declared.Family.TheVariants.{V4, V6}
+use Rattle.gather.specs.declared.Records.{Records}
 use Rattle.gather.specs.declared.Span.{Span}
 use Rattle.gather.specs.declared.Run.{Run}
+
+-- ---- families
+
+-- how many bytes a record has
+abbrev pub size_of : Family → ℕ
+size_of V4 = 5
+size_of V6 = 17
+
+-- how many bits an address has
+abbrev pub width_of : Family → ℕ
+width_of f = size_width (size_of f)
 
 -- ---- the blocks of a list
 
@@ -39,6 +53,15 @@ pub record Listed (size n : ℕ) (bytes : List ℕ) : Type 0 where
   pub long : length bytes ≡ size * n
   pub few : n ≤ most_records
   pub valid : AllBlocks (size_width size) (read_records (size_width size) n bytes)
+
+abbrev pub IsList : Records → Type 0
+IsList r = Listed (size_of r.family) r.count r.bytes.now
+
+abbrev pub blocks_of : Records → List Block
+blocks_of r = read_records (width_of r.family) r.count r.bytes.now
+
+abbrev pub block_at : Records → ℕ → Block
+block_at r i = record_at (width_of r.family) r.bytes.now i
 
 -- the first and the last address of a block, and its length
 pub record Spans (W : ℕ) (b : Block) (s : Span) : Type 0 where
@@ -69,6 +92,9 @@ pub record InOrder (W n : ℕ) (bytes xs : List ℕ) : Type 0 where
   pub inside : (j : ℕ) → j < n → place_of xs j < n
   pub members : SameMembers outside (read_records W n bytes) (picks (ordered W bytes xs) 0 n)
   pub rising : Rising (picks (ordered W bytes xs) 0 n)
+
+abbrev pub HasOrder : Records → List ℕ → Type 0
+HasOrder r xs = InOrder (width_of r.family) r.count r.bytes.now xs
 
 -- the halves of the addresses
 abbrev pub Loaded : ℕ → ℕ → List ℕ → List ℕ → List ℕ → Type 0
@@ -125,7 +151,7 @@ Turned size r b before s now =
 -- ---- what is written
 
 -- the answer and the buffer where the list is not refused: the records of these blocks are written, where they have room
-pub record WritesBlocks (W : ℕ) (bs : List Block) (old : List ℕ) (r : BlocksWriting) (now : List ℕ) : Type 0 where
+pub record WritesBlocks (W : ℕ) (bs : List Block) (old : List ℕ) (r : Result (ℕ × ℕ) Refusal) (now : List ℕ) : Type 0 where
   pub answers : blocks_writing_answer r ≡ answer (0, 0) (write_refusal 0 (records_of W bs) old) (length bs, length (records_of W bs))
   pub leaves : now ≡ write_leaves 0 (records_of W bs) old
 

@@ -1,7 +1,7 @@
 -- Block text: what the form has is what is read, and what reading answers. Assumes nothing.
+use Rattle.std.specs.Prelude.{Option, Some, None}
 use mathlib.Core.Path.{◌≡◌, refl, sym, ap₂, subst, ◌∙◌}
 use mathlib.Core.List.{List, ◌∷◌, ◌++◌}
-use mathlib.Core.Option.{Option, some, none}
 use Prim.Native.Nat.{ℕ, ◌-◌, ◌%◌, ◌^◌, ◌≤◌}
 use native.Mathlib.Decide.{dec_le, ℕ_discrete}
 use native.Mathlib.Omega.{arith}
@@ -38,18 +38,18 @@ value a n = record { address = a; length = n }
 -- ---- the form
 
 -- no slash stands in an address
-strict_slash : (t : List ℕ) (a : Address) → strict_of 0 t ≡ some a → Lacks 47 t
+strict_slash : (t : List ℕ) (a : Address) → strict_of 0 t ≡ Some a → Lacks 47 t
 unfolding digit_of
 strict_slash t a e = strict_lacks 47 refl refl refl 0 t a e
 
-pub block_reads : {t : List ℕ} {a : Address} {n : ℕ} → BlockForm t a n → block_of t ≡ some (record { address = a; length = n })
+pub block_reads : {t : List ℕ} {a : Address} {n : ℕ} → BlockForm t a n → block_of t ≡ Some (record { address = a; length = n })
 unfolding block_of
 block_reads (prefix {t} {u} {a} {n} s p) =
     let e = form_reads s in
     let w = seam 47 t u (strict_slash t a e) in
     rw (w.0, w.1, w.2, e, size_reads 999 p (size_999 p))
 
-pub reads_block : (t : List ℕ) (b : Block) → block_of t ≡ some b → BlockForm t b.address b.length
+pub reads_block : (t : List ℕ) (b : Block) → block_of t ≡ Some b → BlockForm t b.address b.length
 reads_block t b e =
     let (is, address, size) = block_parts t b e in
     subst (λ u. BlockForm u b.address b.length) is (prefix (reads_0 _ b.address address) (reads_size 999 _ b.length size).0)
@@ -58,7 +58,7 @@ reads_block t b e =
 
 module _ (t : List ℕ) where
   module _ {a : Address} {n : ℕ} (f : BlockForm t a n) where
-    checked : {r : Answer Block} → r ≡ read_answer precedence no_block (block_reasons (value a n)) (some (value a n)) → r ≡ block_text_answer t
+    checked : {r : Answer Block} → r ≡ read_answer precedence no_block (block_reasons (value a n)) (Some (value a n)) → r ≡ block_text_answer t
     checked e = e ∙ answer_checked t (omega (arith, block_most f)) (value a n) (block_reads f)
 
   pub call_answers : {r : Answer Block} → BlockCall t r → block_text_answer t ≡ r
@@ -81,8 +81,8 @@ module _ (t : List ℕ) where
       ]
 
       go : length t ≤ 64 → (o : Option Block) → block_of t ≡ o → BlockCall t (block_text_answer t)
-      go l none e = of (not_block l (λ a n f. impossible (sym e ∙ block_reads f)))
-      go l (some b) e = found (reads_block t b e)
+      go l None e = of (not_block l (λ a n f. impossible (sym e ∙ block_reads f)))
+      go l (Some b) e = found (reads_block t b e)
 
   -- what a call that gives a block has found
   pub gives_form : {r : Answer Block} (b : Block) → BlockCall t r → r ≡ gives b

@@ -1,10 +1,10 @@
 -- What is claimed of the published grammar, of normal text and of the loose, network and block forms: reading accepts exactly their texts,
 -- answers what they mean and refuses all others by their numbers, and what is written is the one text of its form. Assumes nothing.
+use Rattle.std.specs.Prelude.{Some, Ok, Result}
 use mathlib.Core.Path.{◌≡◌, refl, sym, ap, subst, subst₂, ◌∙◌}
 use mathlib.Core.Bool.{false}
 use mathlib.Core.List.{List, [], ◌∷◌, ◌++◌}
 use mathlib.Core.Logic.{◌⊎◌, inl, inr, ◌↔◌}
-use mathlib.Core.Option.{some}
 use Prim.Native.Nat.{ℕ, ◌+◌, ◌-◌, ◌*◌, ◌/◌, ◌%◌, ◌^◌, ◌≤◌, ◌<◌}
 use native.Mathlib.Omega.{arith}
 use lib.Dec.{eqb}
@@ -16,14 +16,10 @@ use Rattle.notation.specs.Options.{every}
 use Rattle.address.specs.declared.Address.{Address}
 use Rattle.address.specs.declared.Address.TheVariants.{V4}
 use Rattle.address.specs.declared.Block.{Block}
-use Rattle.address.specs.declared.BlockReading.{BlockReading}
-use Rattle.address.specs.declared.Reading.{Reading}
-use Rattle.address.specs.declared.Reading.TheVariants.{Read}
 use Rattle.address.specs.declared.Refusal.{Refusal}
 use Rattle.address.specs.declared.Refusal.TheVariants.{Malformed, NoRoom, LengthTooLarge, BitsBeyondLength}
 use Rattle.address.specs.Addresses.{IsAddress, family, width, number}
 use Rattle.address.specs.Answers.{Answer, gives, refuses, refusal_number, no_address, no_block, read_answer, write_answer, write_leaves, reading_answer, block_answer, writing_answer}
-use Rattle.address.specs.declared.Writing.{Writing}
 use Rattle.address.proofs.Claims.{one_reading}
 use Rattle.octets.specs.Octets.{octets}
 use Rattle.digits.specs.Numerals.{digit_of, all_digits, part_of, group_of}
@@ -36,7 +32,6 @@ use Rattle.normal.proofs.Claims as normal
 use Rattle.loose.specs.Loose.{loose_part, loose_of, loose_answer}
 use Rattle.network.specs.GivenBytes.{given_of, zero_filled}
 use Rattle.network.specs.NetworkText.{cleared, network_text, write_network_refusal}
-use Rattle.network.specs.declared.NetworkReading.{NetworkReading}
 use Rattle.network.specs.Network.{Network, network_of, network_answer, network_leaves, network_reading_answer}
 use Rattle.network.proofs.Claims as network
 use Rattle.blocks.specs.BlockText.{block_of, block_text_answer, block_text}
@@ -73,26 +68,26 @@ use Rattle.grammar.proofs.SpecimenLaws.{unread, none_of}
 -- Demand 2, "Reading accepts exactly the strict texts of the published rules": a text has an address exactly if the grammar has the text and
 -- the text means that address.
 module _ (t : List ℕ) (a : Address) where
-  pub family_4 : (strict_of 4 t ≡ some a) ↔ IPv4Text t a
+  pub family_4 : (strict_of 4 t ≡ Some a) ↔ IPv4Text t a
   family_4 = (λ e. from (strict-laws.reads_4 t a e), λ h. strict-laws.form_reads (four h))
     where
       from : {s : List ℕ} {b : Address} → StrictForm 4 s b → IPv4Text s b
       from (four h) = h
 
-  pub family_6 : (strict_of 6 t ≡ some a) ↔ IPv6Text t a
+  pub family_6 : (strict_of 6 t ≡ Some a) ↔ IPv6Text t a
   family_6 = (λ e. from (strict-laws.reads_6 t a e), λ h. strict-laws.form_reads (six h))
     where
       from : {s : List ℕ} {b : Address} → StrictForm 6 s b → IPv6Text s b
       from (six h) = h
 
-  pub family_0 : (strict_of 0 t ≡ some a) ↔ (IPv4Text t a ⊎ IPv6Text t a)
+  pub family_0 : (strict_of 0 t ≡ Some a) ↔ (IPv4Text t a ⊎ IPv6Text t a)
   family_0 = (λ e. from (strict-laws.reads_0 t a e), λ h. back h)
     where
       from : {s : List ℕ} {b : Address} → StrictForm 0 s b → IPv4Text s b ⊎ IPv6Text s b
       from (either_4 h) = inl h
       from (either_6 h) = inr h
 
-      back : IPv4Text t a ⊎ IPv6Text t a → strict_of 0 t ≡ some a
+      back : IPv4Text t a ⊎ IPv6Text t a → strict_of 0 t ≡ Some a
       back (inl h) = strict-laws.form_reads (either_4 h)
       back (inr h) = strict-laws.form_reads (either_6 h)
 
@@ -116,30 +111,30 @@ module _ (asked : ℕ) (t : List ℕ) where
   placed_answers r = (λ e. subst (PlacedCall asked t) e (place-laws.placed_call asked t), place-laws.call_answered asked t)
 
   -- An address is read by whatever answers as `read_strict` promises to, exactly if the grammar has the text.
-  pub strict_reader : (r : Reading) → reading_answer r ≡ strict_answer asked t → (a : Address) → (r ≡ Read a) ↔ StrictForm asked t a
+  pub strict_reader : (r : Result Address Refusal) → reading_answer r ≡ strict_answer asked t → (a : Address) → (r ≡ Ok a) ↔ StrictForm asked t a
   strict_reader r promise a =
-      (λ e. (strict_accepts a).0 (sym promise ∙ ap reading_answer e), λ h. one_reading r (Read a) (promise ∙ (strict_accepts a).1 h))
+      (λ e. (strict_accepts a).0 (sym promise ∙ ap reading_answer e), λ h. one_reading r (Ok a) (promise ∙ (strict_accepts a).1 h))
 
 -- ---- rule by rule
 
 -- `dec-octet`: "A part is 0 to 255 in decimal digits with no leading zero, except `0` itself".
-pub part_exactly : (t : List ℕ) (x : ℕ) → (part_of 255 t ≡ some x) ↔ dec-octet t x
+pub part_exactly : (t : List ℕ) (x : ℕ) → (part_of 255 t ≡ Some x) ↔ dec-octet t x
 part_exactly t x = (reads_octet t x, octet_reads)
 
 -- `IPv4address`, by its four octets: "exactly four parts with single dots".
-pub dotted_exactly : (t os : List ℕ) → ((length os ≡ 4) × AllBelow 256 os × (dotted_of t ≡ some (number_of 256 os))) ↔ IPv4address t os
+pub dotted_exactly : (t os : List ℕ) → ((length os ≡ 4) × AllBelow 256 os × (dotted_of t ≡ Some (number_of 256 os))) ↔ IPv4address t os
 dotted_exactly t os = (λ h. octets_address t os h.0 h.1 h.2, λ h. ((address_octets h).0, (address_octets h).1, address_reads h))
 
 -- `h16`: "one to four hex digits, either case".
-pub group_exactly : (t : List ℕ) (x : ℕ) → (group_of t ≡ some x) ↔ h16 t x
+pub group_exactly : (t : List ℕ) (x : ℕ) → (group_of t ≡ Some x) ↔ h16 t x
 group_exactly t x = (reads_h16 t x, h16_reads)
 
 -- `IPv6address`, by its eight groups.
-pub eight_exactly : (t gs : List ℕ) → (eight_of t ≡ some gs) ↔ IPv6address t gs
+pub eight_exactly : (t gs : List ℕ) → (eight_of t ≡ Some gs) ↔ IPv6address t gs
 eight_exactly t gs = (reads_grammar t gs, grammar_reads)
 
 -- the size of a network and the length of a block: "one to three digits, no leading zero except `0`".
-pub size_exactly : (t : List ℕ) (n : ℕ) → (part_of 999 t ≡ some n) ↔ SizePart t n
+pub size_exactly : (t : List ℕ) (n : ℕ) → (part_of 999 t ≡ Some n) ↔ SizePart t n
 size_exactly t n = (λ e. (reads_size 999 t n e).0, λ h. size_reads 999 h (size_999 h))
 
 -- ---- one spelling, one meaning
@@ -198,7 +193,7 @@ at_most_49 = lengths.block_most
 
 module _ (t : List ℕ) where
   -- 01, "Loose IPv4 form": a text has an address exactly if it is of the form and means that address.
-  pub loose_exactly : (a : Address) → (loose_of t ≡ some a) ↔ LooseForm t a
+  pub loose_exactly : (a : Address) → (loose_of t ≡ Some a) ↔ LooseForm t a
   loose_exactly a = (loose-laws.reads_form t a, loose-laws.form_reads)
 
   -- The whole answer of the call, refused calls too, and each refusal.
@@ -215,15 +210,15 @@ module _ (t : List ℕ) where
   loose_accepts a = (loose-laws.gives_form t a (loose-laws.answers_call t), λ h. loose-laws.call_answers t (read_loose h.0 h.1))
 
   -- So does whatever answers as `read_loose` promises to.
-  pub loose_reader : (r : Reading) → reading_answer r ≡ loose_answer t → (a : Address) → (r ≡ Read a) ↔ ((length t ≤ 64) × LooseForm t a)
-  loose_reader r promise a = (λ e. (loose_accepts a).0 (sym promise ∙ ap reading_answer e), λ h. one_reading r (Read a) (promise ∙ (loose_accepts a).1 h))
+  pub loose_reader : (r : Result Address Refusal) → reading_answer r ≡ loose_answer t → (a : Address) → (r ≡ Ok a) ↔ ((length t ≤ 64) × LooseForm t a)
+  loose_reader r promise a = (λ e. (loose_accepts a).0 (sym promise ∙ ap reading_answer e), λ h. one_reading r (Ok a) (promise ∙ (loose_accepts a).1 h))
 
   -- A text means one address.
   pub loose_one_meaning : (a b : Address) → LooseForm t a → LooseForm t b → a ≡ b
   loose_one_meaning a b h k = let p = loose-laws.form_reads h in let q = loose-laws.form_reads k in cc
 
   -- "A part is hexadecimal [...], else octal [...], else decimal.": it is read as its number, and has one.
-  pub loose_part_exactly : (n : ℕ) → (loose_part t ≡ some n) ↔ LoosePart t n
+  pub loose_part_exactly : (n : ℕ) → (loose_part t ≡ Some n) ↔ LoosePart t n
   loose_part_exactly n = (reads_part t n, part_reads)
 
   pub loose_part_one : (m n : ℕ) → LoosePart t m → LoosePart t n → m ≡ n
@@ -284,14 +279,14 @@ module _ (k : ℕ) {t : List ℕ} {n : ℕ} where
 
 module _ (t : List ℕ) where
   -- 01, "Network form": a text means a size and bytes exactly if it is of the form and means these.
-  pub network_exactly : (n : Network) → (network_of t ≡ some n) ↔ NetworkForm t n.size n.bytes
+  pub network_exactly : (n : Network) → (network_of t ≡ Some n) ↔ NetworkForm t n.size n.bytes
   network_exactly n = (network-laws.reads_network t n, network-laws.network_reads)
 
   pub network_one_meaning : (m n : ℕ) (ws xs : List ℕ) → NetworkForm t m ws → NetworkForm t n xs → (m ≡ n) × (ws ≡ xs)
   network_one_meaning m n ws xs = calls.same_network
 
   -- "Either `0x`/`0X` and one to eight hex digits, or one to four strict decimal parts"
-  pub given_exactly : (bs : List ℕ) → (given_of t ≡ some bs) ↔ BytesGiven t bs
+  pub given_exactly : (bs : List ℕ) → (given_of t ≡ Some bs) ↔ BytesGiven t bs
   given_exactly bs = (reads_given t bs, given_reads)
 
 module _ (t old : List ℕ) where
@@ -321,7 +316,7 @@ module _ (t old : List ℕ) where
   network_refused = calls.refused_keeps (network-laws.does_call t old)
 
   -- So does whatever answers and leaves as `read_network` promises to.
-  pub network_reader : (r : NetworkReading) (new : List ℕ) → network_reading_answer r ≡ network_answer t old → new ≡ network_leaves t old
+  pub network_reader : (r : Result (ℕ × ℕ) Refusal) (new : List ℕ) → network_reading_answer r ≡ network_answer t old → new ≡ network_leaves t old
       → NetworkCall t old (network_reading_answer r) new
   network_reader r new e f = (network_answers (network_reading_answer r) new).0 (sym e, sym f)
 
@@ -366,7 +361,7 @@ module _ (a : Address) (is : IsAddress a) (size : ℕ) (old : List ℕ) where
       refuses_exactly (λ r. NetworkWriting a size old r left) 0 _ _ (written-laws.does_call a is size old) (λ r c. (written-laws.call_does a is size old c).0)
 
   -- So does whatever answers and leaves as `write_network` promises to.
-  pub network_writer : (r : Writing) (new : List ℕ) → let text = network_text (number a) size in
+  pub network_writer : (r : Result ℕ Refusal) (new : List ℕ) → let text = network_text (number a) size in
       writing_answer r ≡ write_answer (write_network_refusal a size) text old → new ≡ write_leaves (write_network_refusal a size) text old → NetworkWriting a size old (writing_answer r) new
   network_writer r new e f = (network_writing_answers (writing_answer r) new).0 (sym e, sym f)
 
@@ -375,7 +370,7 @@ module _ (a : Address) (is : IsAddress a) (size : ℕ) (old : List ℕ) where
 module _ (t : List ℕ) where
   -- "strict address text of either family, a slash, a length in the size's digits": a text means a block value exactly if it is of the form
   -- and means that value.
-  pub block_exactly : (b : Block) → (block_of t ≡ some b) ↔ BlockForm t b.address b.length
+  pub block_exactly : (b : Block) → (block_of t ≡ Some b) ↔ BlockForm t b.address b.length
   block_exactly b = (block-laws.reads_block t b, block-laws.block_reads)
 
   -- The whole answer of the call, refused calls too, and each refusal.
@@ -393,7 +388,7 @@ module _ (t : List ℕ) where
   block_accepts b = (block-laws.gives_form t b (block-laws.answers_call t), λ h. block-laws.call_answers t (read_block h.0 h.1 h.2))
 
   -- So does whatever answers as `read_block` promises to.
-  pub block_reader : (r : BlockReading) → block_answer r ≡ block_text_answer t → BlockCall t (block_answer r)
+  pub block_reader : (r : Result Block Refusal) → block_answer r ≡ block_text_answer t → BlockCall t (block_answer r)
   block_reader r promise = (block_answers (block_answer r)).0 (sym promise)
 
 -- "Text is written from a block value in normal text": that of its address, a slash and the length.
@@ -437,7 +432,7 @@ pub all_loose : LooseForm (ascii "010.0.0.12") (V4 0x0800000C)
 unfolding ascii loose_of all_digits digit_of
 all_loose = (read refl, read refl, read refl, read refl, read refl, read refl)
   where
-    read : {t : List ℕ} {v : ℕ} → loose_of t ≡ some (V4 v) → LooseForm t (V4 v)
+    read : {t : List ℕ} {v : ℕ} → loose_of t ≡ Some (V4 v) → LooseForm t (V4 v)
     read {t} {v} e = (loose_exactly t (V4 v)).0 e
 
 -- and texts beside them.

@@ -1,9 +1,9 @@
 -- Digits and strings of digits: what the rules have is what is read. Assumes nothing.
+use Rattle.std.specs.Prelude.{Some}
 use mathlib.Core.Path.{◌≡◌, refl, sym, ap, ap₂, subst, ◌∙◌}
 use mathlib.Core.Bool.{Bool, true, false, cond, and-eq-true_iff}
 use mathlib.Core.List.{List, [], ◌∷◌, ◌++◌, map, append_assoc, append-nil}
 use mathlib.Core.Logic.{◌⊎◌, inl, inr, ⊎_elim}
-use mathlib.Core.Option.{some}
 use Prim.Native.Nat.{ℕ, suc, ◌+◌, ◌-◌, ◌*◌, ◌≤◌, ◌<◌}
 use native.Mathlib.Nat.{zero-mul}
 use native.Mathlib.Omega.{arith}
@@ -109,8 +109,8 @@ module _ {base : ℕ} {D : ℕ → ℕ → Type 0} (same : Same base D) where
       ∙ from_append base 0 (map digit_of t) (digit_of c ∷ [])
       ∙ ap₂ (λ (x y : ℕ). x * base + y) (digits_value g) (same.value h).0
 
-  pub digits_read : {t : List ℕ} {n : ℕ} → DigitString base D t n → text_number base t ≡ some n
-  digits_read {t} {n} g = read_number base t (digits_all g) ∙ ap some (digits_value g)
+  pub digits_read : {t : List ℕ} {n : ℕ} → DigitString base D t n → text_number base t ≡ Some n
+  digits_read {t} {n} g = read_number base t (digits_all g) ∙ ap Some (digits_value g)
 
   -- more digits behind some
   digits_more : (s t : List ℕ) (n : ℕ) → DigitString base D s n → all_digits base t ≡ true → DigitString base D (s ++ t) (number_from base n (map digit_of t))
@@ -129,7 +129,7 @@ module _ {base : ℕ} {D : ℕ → ℕ → Type 0} (same : Same base D) where
       let z : digit_of c ≡ 0 * base + digit_of c = omega (arith, zero-mul base) in
       subst (λ (n : ℕ). DigitString base D (c ∷ t) (number_from base n (map digit_of t))) z (digits_more (c ∷ []) t (digit_of c) (one (same.is c a.0)) a.1)
 
-  pub reads_digits : (t : List ℕ) (n : ℕ) → text_number base t ≡ some n → DigitString base D t n
+  pub reads_digits : (t : List ℕ) (n : ℕ) → text_number base t ≡ Some n → DigitString base D t n
   reads_digits t n e =
       let d = read_digits base t n e in
       let is : number_of base (map digit_of t) ≡ n = let r = read_number base t d in cc in

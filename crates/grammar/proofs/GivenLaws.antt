@@ -1,8 +1,8 @@
 -- The bytes that a network text gives: what the form has is what is read. Assumes nothing.
+use Rattle.std.specs.Prelude.{Some, None}
 use mathlib.Core.Path.{◌≡◌, refl, ap, subst}
 use mathlib.Core.Bool.{Bool, true, false, cond, ◌&&◌, ◌||◌}
 use mathlib.Core.List.{List, [], ◌∷◌, map}
-use mathlib.Core.Option.{some, none}
 use Prim.Native.Nat.{ℕ, ◌*◌, ◌≤◌}
 use native.Mathlib.Omega.{arith}
 use borrow.Author.Tests.{le-leb, leb-true, lt-ltb, eqb-true}
@@ -43,7 +43,7 @@ reads_half (c ∷ d ∷ t) e =
     let b = all_cons 16 d t a.1 in
     two_digits (is_hex c a.0) (is_hex d b.0) (reads_half t b.1)
 
-hex_reads : {t bs : List ℕ} → 1 ≤ length t → length t ≤ 8 → HalfBytes t bs → hex_bytes t ≡ some bs
+hex_reads : {t bs : List ℕ} → 1 ≤ length t → length t ≤ 8 → HalfBytes t bs → hex_bytes t ≡ Some bs
 unfolding hex_bytes
 hex_reads {t} {bs} l m r = let h = half_reads r in rw (le-leb 1 (length t) l, le-leb (length t) 8 m, h.0, h.1)
 
@@ -52,12 +52,12 @@ record Hex (t bs : List ℕ) : Type 0 where
   most : length t ≤ 8
   halves : HalfBytes t bs
 
-hex_says : (t bs : List ℕ) → hex_bytes t ≡ some bs → Hex t bs
+hex_says : (t bs : List ℕ) → hex_bytes t ≡ Some bs → Hex t bs
 unfolding hex_bytes
 hex_says t bs e = go (leb 1 (length t)) refl (leb (length t) 8) refl (all_digits 16 t) refl e
   where
     go : (p : Bool) → leb 1 (length t) ≡ p → (q : Bool) → leb (length t) 8 ≡ q → (r : Bool) → all_digits 16 t ≡ r
-        → cond ((p && q) && r) (some (half_bytes (map digit_of t))) none ≡ some bs → Hex t bs
+        → cond ((p && q) && r) (Some (half_bytes (map digit_of t))) None ≡ Some bs → Hex t bs
     go true f true g true h k =
         let is : half_bytes (map digit_of t) ≡ bs = cc in
         record { any = leb-true 1 (length t) f; most = leb-true (length t) 8 g; halves = subst (HalfBytes t) is (reads_half t h) }
@@ -67,14 +67,14 @@ hex_says t bs e = go (leb 1 (length t)) refl (leb (length t) 8) refl (all_digits
 
 -- ---- decimal parts
 
-octet_lacks : (b : ℕ) → digit_of b ≡ 16 → (p : List ℕ) (x : ℕ) → part_of 255 p ≡ some x → Lacks b p
+octet_lacks : (b : ℕ) → digit_of b ≡ 16 → (p : List ℕ) (x : ℕ) → part_of 255 p ≡ Some x → Lacks b p
 octet_lacks b n p x e = no_digit 10 b p (lit≤ tt) n (part_digits 255 p x e).all
 
 module _ {ps : List (List ℕ)} {xs : List ℕ} (r : Reads (part_of 255) ps xs) where
   parts_lack : (b : ℕ) → digit_of b ≡ 16 → eqb 46 b ≡ false → Lacks b (separated 46 ps)
   parts_lack b n m = lacks_separated 46 b m ps (reads_each (octet_lacks b n) r)
 
-  parts_given : 1 ≤ length xs → length xs ≤ 4 → given_of (separated 46 ps) ≡ some xs
+  parts_given : 1 ≤ length xs → length xs ≤ 4 → given_of (separated 46 ps) ≡ Some xs
   unfolding given_of digit_of
   parts_given any most =
       rw (not_marked (separated 46 ps) (parts_lack 120 refl refl) (parts_lack 88 refl refl))
@@ -109,24 +109,24 @@ parts_spelling_4 (a·b·c·d g h i j) = rw (octet_spelling g, octet_spelling h, 
 
 -- ---- the bytes given
 
-pub given_reads : {t bs : List ℕ} → BytesGiven t bs → given_of t ≡ some bs
+pub given_reads : {t bs : List ℕ} → BytesGiven t bs → given_of t ≡ Some bs
 unfolding given_of
 given_reads (after_lower_0x l m r) = hex_reads l m r
 given_reads (after_upper_0x l m r) = hex_reads l m r
-given_reads (or_decimal {t} {bs} p) = let w = parts_read p in subst (λ s. given_of s ≡ some bs) w.1 (parts_given w.2 w.3 w.4)
+given_reads (or_decimal {t} {bs} p) = let w = parts_read p in subst (λ s. given_of s ≡ Some bs) w.1 (parts_given w.2 w.3 w.4)
 
-pub reads_parts : (t bs : List ℕ) → parts_of t ≡ some bs → DecimalParts t bs
+pub reads_parts : (t bs : List ℕ) → parts_of t ≡ Some bs → DecimalParts t bs
 reads_parts t bs e =
     let o = parts_are t bs e in
     subst (λ s. DecimalParts s bs) (separated_split 46 t) (pieces_parts (every_reads (part_of 255) (split_on 46 t) bs o.each) o.octets.any o.octets.most)
 
-pub reads_given : (t bs : List ℕ) → given_of t ≡ some bs → BytesGiven t bs
+pub reads_given : (t bs : List ℕ) → given_of t ≡ Some bs → BytesGiven t bs
 unfolding given_of
 reads_given [] bs e = or_decimal (reads_parts [] bs e)
 reads_given (c ∷ []) bs e = or_decimal (reads_parts (c ∷ []) bs e)
 reads_given (c ∷ d ∷ t) bs e = go (eqb c 48) refl (eqb d 120) refl (eqb d 88) refl e
   where
-    go : (p : Bool) → eqb c 48 ≡ p → (q : Bool) → eqb d 120 ≡ q → (r : Bool) → eqb d 88 ≡ r → cond (p && (q || r)) (hex_bytes t) (parts_of (c ∷ d ∷ t)) ≡ some bs → BytesGiven (c ∷ d ∷ t) bs
+    go : (p : Bool) → eqb c 48 ≡ p → (q : Bool) → eqb d 120 ≡ q → (r : Bool) → eqb d 88 ≡ r → cond (p && (q || r)) (hex_bytes t) (parts_of (c ∷ d ∷ t)) ≡ Some bs → BytesGiven (c ∷ d ∷ t) bs
     go true f true g r h k = let x = hex_says t bs k in rw (eqb-true c 48 f, eqb-true d 120 g) (after_lower_0x x.any x.most x.halves)
     go true f false g true h k = let x = hex_says t bs k in rw (eqb-true c 48 f, eqb-true d 88 h) (after_upper_0x x.any x.most x.halves)
     go true f false g false h k = or_decimal (reads_parts (c ∷ d ∷ t) bs k)

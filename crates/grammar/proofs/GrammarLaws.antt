@@ -1,8 +1,8 @@
 -- The nine alternatives of IPv6 text are eight groups, or two sides of `::`. Assumes nothing.
+use Rattle.std.specs.Prelude.{Some}
 use mathlib.Core.Path.{◌≡◌, refl, ap}
 use mathlib.Core.Bool.{Bool, true, false}
 use mathlib.Core.List.{List, [], ◌∷◌, ◌++◌, append_assoc}
-use mathlib.Core.Option.{some}
 use Prim.Native.Nat.{ℕ, zero, suc, ◌+◌, ◌-◌, ◌≤◌, ◌<◌}
 use native.Mathlib.Omega.{arith}
 use lib.ListN.{length, length-append}
@@ -130,8 +130,8 @@ eight_has (around left (groups r) few) = run_has left r few
 
 -- ---- what the grammar has is what is read
 
-pub grammar_reads : {t gs : List ℕ} → IPv6address t gs → eight_of t ≡ some gs
+pub grammar_reads : {t gs : List ℕ} → IPv6address t gs → eight_of t ≡ Some gs
 grammar_reads a = eight_reads (has_eight a)
 
-pub reads_grammar : (t gs : List ℕ) → eight_of t ≡ some gs → IPv6address t gs
+pub reads_grammar : (t gs : List ℕ) → eight_of t ≡ Some gs → IPv6address t gs
 reads_grammar t gs e = eight_has (reads_eight t gs e)

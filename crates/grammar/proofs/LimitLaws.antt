@@ -1,8 +1,8 @@
 -- Loose text: the limits of its parts, the octets that they fill, and leading zeros. Assumes nothing.
+use Rattle.std.specs.Prelude.{Some}
 use mathlib.Core.Path.{◌≡◌, sym, subst, ◌∙◌}
 use mathlib.Core.List.{List, [], ◌∷◌, ◌++◌}
 use mathlib.Core.Logic.{◌↔◌}
-use mathlib.Core.Option.{some}
 use Prim.Native.Nat.{ℕ, suc, ◌+◌, ◌*◌, ◌/◌, ◌%◌, ◌^◌, ◌≤◌, ◌<◌}
 use native.Mathlib.Omega.{arith}
 use lib.ListN.{length, replicate}
@@ -26,7 +26,7 @@ use Rattle.grammar.proofs.LooseFormLaws.{loose_pieces, form_reads, kept}
 -- ---- limits
 
 module _ {ps : List (List ℕ)} {xs : List ℕ} (r : Reads loose_part ps xs) (any : 0 < length ps) (v : Address) (h : LooseForm (separated 46 ps) v) where
-  read_so : address_after 0 (octets_from 4 xs) ≡ some v
+  read_so : address_after 0 (octets_from 4 xs) ≡ Some v
   read_so = sym (loose_pieces r any) ∙ form_reads h
 
 pub limit_1 : {s : List ℕ} {a : ℕ} → LoosePart s a → (v : Address) → LooseForm s v ↔ ((a ≤ 4294967295) × (v ≡ V4 a))
@@ -35,7 +35,7 @@ limit_1 {s} {a} g v = (λ h. to h, λ k. subst (LooseForm s) (sym k.1) (only_a g
   where
     to : LooseForm s v → (a ≤ 4294967295) × (v ≡ V4 a)
     to h =
-        let i = kept a (2 ^ 32) (some (V4 a)) (sym (one_part a) ∙ read_so (more (part_reads g) done) (omega arith) v h) in
+        let i = kept a (2 ^ 32) (Some (V4 a)) (sym (one_part a) ∙ read_so (more (part_reads g) done) (omega arith) v h) in
         (omega (arith, i.0), sym (same_value i.1))
 
 pub limit_2 : {s t : List ℕ} {a b : ℕ} → LoosePart s a → LoosePart t b → (v : Address) → LooseForm (s ++ 46 ∷ t) v ↔ ((a ≤ 255) × (b ≤ 16777215) × (v ≡ V4 (a * 16777216 + b)))

@@ -1,8 +1,8 @@
 -- One part of a loose text: what the form has is what is read. Assumes nothing.
+use Rattle.std.specs.Prelude.{Some}
 use mathlib.Core.Path.{◌≡◌, refl, sym, ap, subst, ◌∙◌}
 use mathlib.Core.Bool.{Bool, true, false, cond, ◌&&◌, ◌||◌}
 use mathlib.Core.List.{List, [], ◌∷◌}
-use mathlib.Core.Option.{some}
 use Prim.Native.Nat.{ℕ, ◌≤◌, ◌<◌}
 use native.Mathlib.Omega.{arith}
 use borrow.Author.Tests.{ne_eqb, eqb-true, eqb-false}
@@ -48,11 +48,11 @@ unfolding text_number all_digits digit_of number_of
 zero_number [] h = absurd (omega arith)
 zero_number (c ∷ t) h = refl
 
-zero_alone : text_number 8 (48 ∷ []) ≡ some 0
+zero_alone : text_number 8 (48 ∷ []) ≡ Some 0
 unfolding text_number all_digits digit_of
 zero_alone = refl
 
-pub part_reads : {p : List ℕ} {n : ℕ} → LoosePart p n → loose_part p ≡ some n
+pub part_reads : {p : List ℕ} {n : ℕ} → LoosePart p n → loose_part p ≡ Some n
 unfolding loose_part
 part_reads (after_lower_0x g) = digits_read same_16 g
 part_reads (after_upper_0x g) = digits_read same_16 g
@@ -61,28 +61,28 @@ part_reads (else_decimal {c} {t} l g) = rw (decimal_unmarked c t l, ne_eqb c 48 
 part_reads only_0 = zero_alone
 
 -- digits that do not begin with `0`
-reads_decimal : (c : ℕ) (t : List ℕ) (n : ℕ) → eqb c 48 ≡ false → text_number 10 (c ∷ t) ≡ some n → LoosePart (c ∷ t) n
+reads_decimal : (c : ℕ) (t : List ℕ) (n : ℕ) → eqb c 48 ≡ false → text_number 10 (c ∷ t) ≡ Some n → LoosePart (c ∷ t) n
 reads_decimal c t n z e =
     let a = all_cons 10 c t (read_digits 10 (c ∷ t) n e).all in
     let b = bounds (is_digit c a.0) in
     let other = eqb-false c 48 z in
     else_decimal {c = c} (omega arith) (reads_digits same_10 (c ∷ t) n e)
 
-pub reads_part : (p : List ℕ) (n : ℕ) → loose_part p ≡ some n → LoosePart p n
+pub reads_part : (p : List ℕ) (n : ℕ) → loose_part p ≡ Some n → LoosePart p n
 unfolding loose_part
 reads_part [] n e = impossible e
 reads_part (c ∷ []) n e = go (eqb c 48) refl e
   where
-    go : (p : Bool) → eqb c 48 ≡ p → text_number (cond p 8 10) (c ∷ []) ≡ some n → LoosePart (c ∷ []) n
+    go : (p : Bool) → eqb c 48 ≡ p → text_number (cond p 8 10) (c ∷ []) ≡ Some n → LoosePart (c ∷ []) n
     go true q k =
         let same = eqb-true c 48 q in
-        let none_else : 0 ≡ n = let z = zero_alone in let f : text_number 8 (48 ∷ []) ≡ some n = ap (λ (b : ℕ). text_number 8 (b ∷ [])) (sym same) ∙ k in cc in
+        let none_else : 0 ≡ n = let z = zero_alone in let f : text_number 8 (48 ∷ []) ≡ Some n = ap (λ (b : ℕ). text_number 8 (b ∷ [])) (sym same) ∙ k in cc in
         rw same (subst (LoosePart (48 ∷ [])) none_else only_0)
     go false q k = reads_decimal c [] n q k
 reads_part (c ∷ d ∷ t) n e = go (eqb c 48) refl (eqb d 120) refl (eqb d 88) refl e
   where
     go : (p : Bool) → eqb c 48 ≡ p → (q : Bool) → eqb d 120 ≡ q → (r : Bool) → eqb d 88 ≡ r
-        → text_number (cond (p && (q || r)) 16 (cond p 8 10)) (drop (cond (p && (q || r)) 2 0) (c ∷ d ∷ t)) ≡ some n → LoosePart (c ∷ d ∷ t) n
+        → text_number (cond (p && (q || r)) 16 (cond p 8 10)) (drop (cond (p && (q || r)) 2 0) (c ∷ d ∷ t)) ≡ Some n → LoosePart (c ∷ d ∷ t) n
     go true f true g r h k = rw (eqb-true c 48 f, eqb-true d 120 g) (after_lower_0x (reads_digits same_16 t n k))
     go true f false g true h k = rw (eqb-true c 48 f, eqb-true d 88 h) (after_upper_0x (reads_digits same_16 t n k))
     go true f false g false h k =

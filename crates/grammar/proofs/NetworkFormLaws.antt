@@ -1,8 +1,8 @@
 -- Network text: what the form has is what is read, and what reading answers and leaves in the buffer. Assumes nothing.
+use Rattle.std.specs.Prelude.{Option, Some, None, option_map}
 use mathlib.Core.Path.{◌≡◌, refl, sym, ap, subst, subst₂, ◌∙◌}
 use mathlib.Core.Bool.{Bool, true, false, cond, ◌&&◌}
 use mathlib.Core.List.{List, [], ◌∷◌, ◌++◌, append-nil}
-use mathlib.Core.Option.{Option, some, none, map}
 use Prim.Native.Nat.{ℕ, suc, ◌+◌, ◌-◌, ◌*◌, ◌/◌, ◌≤◌, ◌<◌, max}
 use native.Mathlib.Decide.{dec_le, dec_lt}
 use native.Mathlib.Omega.{arith}
@@ -114,27 +114,27 @@ no_slash : {t bs : List ℕ} → BytesGiven t bs → Lacks 47 t
 unfolding digit_of
 no_slash g = given_lacks 47 refl refl refl refl g
 
-pub network_reads : {t ws : List ℕ} {size : ℕ} → NetworkForm t size ws → network_of t ≡ some (record { size = size; bytes = ws })
+pub network_reads : {t ws : List ℕ} {size : ℕ} → NetworkForm t size ws → network_of t ≡ Some (record { size = size; bytes = ws })
 unfolding network_of
 network_reads (with_size {t} {u} {bs} {ws} {size} g p w) =
     let s = seam 47 t u (no_slash g) in
-    rw (s.0, s.1, s.2, given_reads g, size_reads 999 p (size_999 p)) (ap some (completed_is w))
-network_reads (without {t} {bs} {ws} {size} g i w) = rw (no_slash g, given_reads g, inferred_is i) (ap some (completed_is w))
+    rw (s.0, s.1, s.2, given_reads g, size_reads 999 p (size_999 p)) (ap Some (completed_is w))
+network_reads (without {t} {bs} {ws} {size} g i w) = rw (no_slash g, given_reads g, inferred_is i) (ap Some (completed_is w))
 
-sized_says : (o : Option ℕ) (g : Option (List ℕ)) (n : Network) → sized o g ≡ some n → (size : ℕ) × (bs : List ℕ) × (o ≡ some size) × (g ≡ some bs) × (completed size bs ≡ n)
-sized_says none g n e = impossible e
-sized_says (some size) none n e = impossible e
-sized_says (some size) (some bs) n e = (size, bs, refl, refl, cc)
+sized_says : (o : Option ℕ) (g : Option (List ℕ)) (n : Network) → sized o g ≡ Some n → (size : ℕ) × (bs : List ℕ) × (o ≡ Some size) × (g ≡ Some bs) × (completed size bs ≡ n)
+sized_says None g n e = impossible e
+sized_says (Some size) None n e = impossible e
+sized_says (Some size) (Some bs) n e = (size, bs, refl, refl, cc)
 
 abbrev Form : List ℕ → Network → Type 0
 Form t n = NetworkForm t n.size n.bytes
 
-same_size : (bs : List ℕ) (o : Option (List ℕ)) (size : ℕ) → o ≡ some bs → map inferred_size o ≡ some size → inferred_size bs ≡ size
-same_size bs none size e f = impossible e
-same_size bs (some cs) size e f = let is : cs ≡ bs = cc in ap inferred_size (sym is) ∙ (let g : inferred_size cs ≡ size = cc in g)
+same_size : (bs : List ℕ) (o : Option (List ℕ)) (size : ℕ) → o ≡ Some bs → option_map inferred_size o ≡ Some size → inferred_size bs ≡ size
+same_size bs None size e f = impossible e
+same_size bs (Some cs) size e f = let is : cs ≡ bs = cc in ap inferred_size (sym is) ∙ (let g : inferred_size cs ≡ size = cc in g)
 
 module _ (t : List ℕ) (n : Network) where
-  slash_form : contains 47 t ≡ true → sized (part_of 999 (drop (suc (index_of 47 t)) t)) (given_of (before_slash t)) ≡ some n → Form t n
+  slash_form : contains 47 t ≡ true → sized (part_of 999 (drop (suc (index_of 47 t)) t)) (given_of (before_slash t)) ≡ Some n → Form t n
   unfolding completed
   slash_form q k =
       let behind = drop (suc (index_of 47 t)) t in
@@ -144,22 +144,22 @@ module _ (t : List ℕ) (n : Network) where
       let f = with_size (reads_given (before_slash t) bs s.3) (reads_size 999 behind size s.2).0 (is_written size bs) in
       subst (Form t) s.4 (subst (λ u. NetworkForm u size (filled size bs)) (around 47 t q) f)
 
-  whole_form : sized (map inferred_size (given_of t)) (given_of t) ≡ some n → Form t n
+  whole_form : sized (option_map inferred_size (given_of t)) (given_of t) ≡ Some n → Form t n
   unfolding completed
   whole_form k =
-      let s = sized_says (map inferred_size (given_of t)) (given_of t) n k in
+      let s = sized_says (option_map inferred_size (given_of t)) (given_of t) n k in
       let size = s.0 in
       let bs = s.1 in
       let is = same_size bs (given_of t) size s.3 s.2 in
       let i = subst (InferredSize bs) is (is_inferred bs (given_octets t bs s.3).any) in
       subst (Form t) s.4 (without (reads_given t bs s.3) i (is_written size bs))
 
-  pub reads_network : network_of t ≡ some n → NetworkForm t n.size n.bytes
+  pub reads_network : network_of t ≡ Some n → NetworkForm t n.size n.bytes
   unfolding network_of
   reads_network e = go (contains 47 t) refl e
     where
       go : (p : Bool) → contains 47 t ≡ p
-          → cond p (sized (part_of 999 (drop (suc (index_of 47 t)) t)) (given_of (before_slash t))) (sized (map inferred_size (given_of t)) (given_of t)) ≡ some n → Form t n
+          → cond p (sized (part_of 999 (drop (suc (index_of 47 t)) t)) (given_of (before_slash t))) (sized (option_map inferred_size (given_of t)) (given_of t)) ≡ Some n → Form t n
       go true q k = slash_form q k
       go false q k = whole_form k
 
@@ -170,7 +170,7 @@ module _ (t old : List ℕ) where
   abbrev Does : Answer (ℕ × ℕ) → List ℕ → Type 0
   Does r new = (network_answer t old ≡ r) × (network_leaves t old ≡ new)
 
-  does_malformed : length t ≤ 64 → network_of t ≡ none → Does (refuses (0, 0) Malformed) old
+  does_malformed : length t ≤ 64 → network_of t ≡ None → Does (refuses (0, 0) Malformed) old
   unfolding network_answer network_leaves
   does_malformed short h = let e = le-ltb 64 (length t) short in (rw (h, e), rw (h, e))
 
@@ -217,5 +217,5 @@ module _ (t old : List ℕ) where
       ]
 
       go : length t ≤ 64 → (o : Option Network) → network_of t ≡ o → NetworkCall t old (network_answer t old) (network_leaves t old)
-      go l none q = of (no_network_lem l (λ size ws f. impossible (sym q ∙ network_reads f)))
-      go l (some n) q = found (reads_network t n q)
+      go l None q = of (no_network_lem l (λ size ws f. impossible (sym q ∙ network_reads f)))
+      go l (Some n) q = found (reads_network t n q)

@@ -1,8 +1,8 @@
 -- Normal text: what the form has is what is written, and it is the only one. Assumes nothing.
+use Rattle.std.specs.Prelude.{Some}
 use mathlib.Core.Path.{◌≡◌, refl, sym, ap, ap₂, subst, ◌∙◌}
 use mathlib.Core.Bool.{false}
 use mathlib.Core.List.{List, [], ◌∷◌, ◌++◌, map}
-use mathlib.Core.Option.{some}
 use Prim.Native.Nat.{ℕ, ◌+◌, ◌-◌, ◌≤◌, ◌<◌}
 use native.Mathlib.Decide.{dec_le, dec_lt, ℕ_discrete}
 use native.Mathlib.Omega.{arith}
@@ -79,7 +79,7 @@ lower_capital (c ∷ t) e = and_byte (λ h k. low c h k (heads e)) (lower_capita
     low : (c : ℕ) → 65 ≤ c → c ≤ 90 → lower c ≡ c → ⊥
     low c h k e = let up : lower c ≡ c + 32 = rw (le-leb 65 c h, le-leb c 90 k) in omega arith
 
-zero_group : group_of (48 ∷ []) ≡ some 0
+zero_group : group_of (48 ∷ []) ≡ Some 0
 unfolding group_of all_digits digit_of
 zero_group = refl
 
@@ -88,7 +88,7 @@ unfolding leading_zero
 normal_of [] x g z low = absurd (omega (arith, (group_digits [] x (h16_reads g)).0.any))
 normal_of (c ∷ []) x g z low = elim (ℕ_discrete c 48) [
   | yes e ↦
-      let read : group_of (48 ∷ []) ≡ some x = ap (λ (b : ℕ). group_of (b ∷ [])) (sym e) ∙ h16_reads g in
+      let read : group_of (48 ∷ []) ≡ Some x = ap (λ (b : ℕ). group_of (b ∷ [])) (sym e) ∙ h16_reads g in
       let none_else : 0 ≡ x = same_value (sym zero_group ∙ read) in
       subst (λ t. NormalH16 t x) (ap (λ (b : ℕ). b ∷ []) (sym e)) (subst (NormalH16 (48 ∷ [])) none_else only_0)
   | no n ↦ no_leading_0 n low g

@@ -1,8 +1,8 @@
 -- Octets, sizes and groups: what the rules have is what is read, and octets and sizes have one spelling. Assumes nothing.
+use Rattle.std.specs.Prelude.{Some, None}
 use mathlib.Core.Path.{◌≡◌, refl, sym, ap, ap₂, subst, subst₂, ◌∙◌}
 use mathlib.Core.Bool.{Bool, true, false, cond, ◌||◌}
 use mathlib.Core.List.{List, [], ◌∷◌, map}
-use mathlib.Core.Option.{some, none}
 use Prim.Native.Nat.{ℕ, ◌+◌, ◌*◌, ◌≤◌}
 use native.Mathlib.Decide.{dec_le}
 use native.Mathlib.Omega.{arith}
@@ -25,12 +25,12 @@ first_not_0 c [] h = refl
 first_not_0 c (d ∷ t) h = ne_eqb c 48 (omega arith)
 
 -- a size of at most m is read as a part of at most m
-pub size_reads : (m : ℕ) {t : List ℕ} {x : ℕ} → SizePart t x → x ≤ m → part_of m t ≡ some x
+pub size_reads : (m : ℕ) {t : List ℕ} {x : ℕ} → SizePart t x → x ≤ m → part_of m t ≡ Some x
 unfolding part_of
 size_reads m (one_to_three {c} {t} {n} h g l) k = rw (first_not_0 c t h, le-ltb 3 (length (c ∷ t)) l, digits_read same_10 g, le-leb n m k)
 size_reads m only_0 k = zero_reads
   where
-    zero_reads : at_most m (text_number 10 (48 ∷ [])) ≡ some 0
+    zero_reads : at_most m (text_number 10 (48 ∷ [])) ≡ Some 0
     zero_reads = rw (digits_read same_10 (one (byte 48 (omega arith) (omega arith))), le-leb 0 m k)
 
 -- the first of some digits
@@ -53,11 +53,11 @@ size_of (c ∷ []) n h l g = elim (dec_le 49 c) [
     alone (one_digit h) z = let b = bounds h in omega arith
 size_of (c ∷ d ∷ t) n h l g = one_to_three {c = c} (let b = first_byte c (d ∷ t) n g in let z = eqb-false c 48 h in omega arith) g l
 
-pub reads_size : (m : ℕ) (t : List ℕ) (x : ℕ) → part_of m t ≡ some x → SizePart t x × (x ≤ m)
+pub reads_size : (m : ℕ) (t : List ℕ) (x : ℕ) → part_of m t ≡ Some x → SizePart t x × (x ≤ m)
 unfolding part_of
 reads_size m t x e = go (leading_zero t) refl (ltb 3 (length t)) refl e
   where
-    go : (p : Bool) → leading_zero t ≡ p → (q : Bool) → ltb 3 (length t) ≡ q → cond (p || q) none (at_most m (text_number 10 t)) ≡ some x → SizePart t x × (x ≤ m)
+    go : (p : Bool) → leading_zero t ≡ p → (q : Bool) → ltb 3 (length t) ≡ q → cond (p || q) None (at_most m (text_number 10 t)) ≡ Some x → SizePart t x × (x ≤ m)
     go true l q s k = impossible k
     go false l true s k = impossible k
     go false l false s k = let a = at_most_says m x (text_number 10 t) k in (size_of t x l (ltb-false 3 (length t) s) (reads_digits same_10 t x a.0), a.1)
@@ -126,23 +126,23 @@ size_octet (one_to_three {c} h g l) m = go (short g l) h m
     go (three_digits d e f) h m = three_octet d e f h m
 size_octet only_0 m = 0-9 (byte 48 (omega arith) (omega arith))
 
-pub octet_reads : {t : List ℕ} {x : ℕ} → dec-octet t x → part_of 255 t ≡ some x
+pub octet_reads : {t : List ℕ} {x : ℕ} → dec-octet t x → part_of 255 t ≡ Some x
 octet_reads h = let s = octet_size h in size_reads 255 s.0 s.1
 
-pub reads_octet : (t : List ℕ) (x : ℕ) → part_of 255 t ≡ some x → dec-octet t x
+pub reads_octet : (t : List ℕ) (x : ℕ) → part_of 255 t ≡ Some x → dec-octet t x
 reads_octet t x e = let s = reads_size 255 t x e in size_octet s.0 s.1
 
 -- ---- groups
 
-pub h16_reads : {t : List ℕ} {x : ℕ} → h16 t x → group_of t ≡ some x
+pub h16_reads : {t : List ℕ} {x : ℕ} → h16 t x → group_of t ≡ Some x
 unfolding group_of
 h16_reads (1*4HEXDIG {t} g l) = rw (le-ltb 4 (length t) l) (digits_read same_16 g)
 
-pub reads_h16 : (t : List ℕ) (x : ℕ) → group_of t ≡ some x → h16 t x
+pub reads_h16 : (t : List ℕ) (x : ℕ) → group_of t ≡ Some x → h16 t x
 unfolding group_of
 reads_h16 t x e = go (ltb 4 (length t)) refl e
   where
-    go : (q : Bool) → ltb 4 (length t) ≡ q → cond q none (text_number 16 t) ≡ some x → h16 t x
+    go : (q : Bool) → ltb 4 (length t) ≡ q → cond q None (text_number 16 t) ≡ Some x → h16 t x
     go true s k = impossible k
     go false s k = 1*4HEXDIG (reads_digits same_16 t x k) (ltb-false 4 (length t) s)
 

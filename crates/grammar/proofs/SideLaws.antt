@@ -1,8 +1,8 @@
 -- Groups with single colons between them: the texts of one side of `::`, and what is read of them. Assumes nothing.
+use Rattle.std.specs.Prelude.{Option, Some, None, option_map}
 use mathlib.Core.Path.{◌≡◌, refl, sym, ap, subst, ◌∙◌}
 use mathlib.Core.Bool.{Bool, true, false, cond}
 use mathlib.Core.List.{List, [], ◌∷◌, ◌++◌, append_assoc}
-use mathlib.Core.Option.{Option, some, none, map}
 use Prim.Native.Nat.{ℕ, suc, ◌+◌, ◌*◌, ◌/◌, ◌%◌, ◌<◌}
 use native.Mathlib.Omega.{arith}
 use lib.Dec.{eqb, lit≤}
@@ -72,14 +72,14 @@ module _ {t os : List ℕ} (h : IPv4address t os) where
   address_begins = piece_begins t address_lacks (address_any h)
 
   -- an IPv4 text is no group
-  address_no_group : group_of t ≡ none
+  address_no_group : group_of t ≡ None
   unfolding dotted_of
   address_no_group = go (group_of t) refl
     where
-      go : (o : Option ℕ) → group_of t ≡ o → o ≡ none
-      go none e = refl
-      go (some x) e =
-          let no_dots : dotted_of t ≡ none = rw (split_lacks 46 t (h16_dotless (reads_h16 t x e))) in
+      go : (o : Option ℕ) → group_of t ≡ o → o ≡ None
+      go None e = refl
+      go (Some x) e =
+          let no_dots : dotted_of t ≡ None = rw (split_lacks 46 t (h16_dotless (reads_h16 t x e))) in
           impossible (sym no_dots ∙ address_reads h)
 
 -- the two groups of four octets
@@ -107,10 +107,10 @@ unfolding pieces_of
 pieces_cons d p [] h = absurd (omega arith)
 pieces_cons d p (q ∷ qs) h = refl
 
-run_pieces : {d : Bool} {t gs : List ℕ} → Run d t gs → pieces_of d (split_on 58 t) ≡ some gs
+run_pieces : {d : Bool} {t gs : List ℕ} → Run d t gs → pieces_of d (split_on 58 t) ≡ Some gs
 unfolding pieces_of tail_of
 run_pieces (last {t = t} h) = rw (split_lacks 58 t (h16_lacks h)) (rw (h16_reads h))
-run_pieces (tail {t = t} v) = rw (split_lacks 58 t (address_lacks v)) (rw (address_no_group v, address_reads v) (ap some (two_groups v)))
+run_pieces (tail {t = t} v) = rw (split_lacks 58 t (address_lacks v)) (rw (address_no_group v, address_reads v) (ap Some (two_groups v)))
 run_pieces (next {d = d} {t = t} {u = u} {x = x} {xs = xs} h r) =
     rw (split_after t u (h16_lacks h), pieces_cons d t (split_on 58 u) (rw (split_first 58 u).1 (omega arith)), h16_reads h, run_pieces r)
 
@@ -119,12 +119,12 @@ run_begins (last h) = h16_begins h
 run_begins (tail v) = address_begins v
 run_begins (next {u = u} h r) = begins_more (h16_begins h) (58 ∷ u)
 
-pub side_reads : {d : Bool} {t gs : List ℕ} → Side d t gs → side_of d t ≡ some gs
+pub side_reads : {d : Bool} {t gs : List ℕ} → Side d t gs → side_of d t ≡ Some gs
 unfolding side_of
 side_reads nothing = refl
 side_reads (groups {d} {t} {gs} r) = go (run_begins r) (run_pieces r)
   where
-    go : {s : List ℕ} → Begins s → pieces_of d (split_on 58 s) ≡ some gs → side_of d s ≡ some gs
+    go : {s : List ℕ} → Begins s → pieces_of d (split_on 58 s) ≡ Some gs → side_of d s ≡ Some gs
     go (begins n) e = e
 
 -- ---- what is read is a run
@@ -132,39 +132,39 @@ side_reads (groups {d} {t} {gs} r) = go (run_begins r) (run_pieces r)
 tail_run : {t os : List ℕ} → IPv4address t os → Run true t (digits_of 65536 2 (number_of 256 os))
 tail_run (four_octets g h i j) = let v = four_octets g h i j in rw (two_groups v) (tail v)
 
-reads_tail : (t gs : List ℕ) → tail_of t ≡ some gs → Run true t gs
+reads_tail : (t gs : List ℕ) → tail_of t ≡ Some gs → Run true t gs
 unfolding tail_of
 reads_tail t gs e = go (dotted_of t) refl e
   where
-    go : (o : Option ℕ) → dotted_of t ≡ o → map (digits_of 65536 2) o ≡ some gs → Run true t gs
-    go none q k = impossible k
-    go (some v) q k =
+    go : (o : Option ℕ) → dotted_of t ≡ o → option_map (digits_of 65536 2) o ≡ Some gs → Run true t gs
+    go None q k = impossible k
+    go (Some v) q k =
         let a = reads_address t v q in
         let f = address_reads a in
         let same : number_of 256 (digits_of 256 4 v) ≡ v = cc in
         let is : digits_of 65536 2 v ≡ gs = cc in
         subst (Run true t) (ap (digits_of 65536 2) same ∙ is) (tail_run a)
 
-pieces_run : (d : Bool) (ps : List (List ℕ)) (gs : List ℕ) → 0 < length ps → pieces_of d ps ≡ some gs → Run d (separated 58 ps) gs
+pieces_run : (d : Bool) (ps : List (List ℕ)) (gs : List ℕ) → 0 < length ps → pieces_of d ps ≡ Some gs → Run d (separated 58 ps) gs
 unfolding pieces_of separated
 pieces_run d [] gs any e = absurd (omega arith)
 pieces_run d (p ∷ []) gs any e = go (group_of p) refl d e
   where
-    go : (o : Option ℕ) → group_of p ≡ o → (d : Bool) → or_else (single o) (cond d (tail_of p) none) ≡ some gs → Run d p gs
-    go (some x) q d k = let is : x ∷ [] ≡ gs = cc in subst (Run d p) is (last (reads_h16 p x q))
-    go none q true k = reads_tail p gs k
-    go none q false k = impossible k
+    go : (o : Option ℕ) → group_of p ≡ o → (d : Bool) → or_else (single o) (cond d (tail_of p) None) ≡ Some gs → Run d p gs
+    go (Some x) q d k = let is : x ∷ [] ≡ gs = cc in subst (Run d p) is (last (reads_h16 p x q))
+    go None q true k = reads_tail p gs k
+    go None q false k = impossible k
 pieces_run d (p ∷ q ∷ ps) gs any e = go (group_of p) refl (pieces_of d (q ∷ ps)) refl e (pieces_run d (q ∷ ps))
   where
-    go : (o : Option ℕ) → group_of p ≡ o → (os : Option (List ℕ)) → pieces_of d (q ∷ ps) ≡ os → joined (single o) os ≡ some gs
-        → ((ys : List ℕ) → 0 < suc (length ps) → pieces_of d (q ∷ ps) ≡ some ys → Run d (separated 58 (q ∷ ps)) ys) → Run d (p ++ 58 ∷ separated 58 (q ∷ ps)) gs
-    go none f os r k ih = impossible k
-    go (some x) f none r k ih = impossible k
-    go (some x) f (some ys) r k ih =
+    go : (o : Option ℕ) → group_of p ≡ o → (os : Option (List ℕ)) → pieces_of d (q ∷ ps) ≡ os → joined (single o) os ≡ Some gs
+        → ((ys : List ℕ) → 0 < suc (length ps) → pieces_of d (q ∷ ps) ≡ Some ys → Run d (separated 58 (q ∷ ps)) ys) → Run d (p ++ 58 ∷ separated 58 (q ∷ ps)) gs
+    go None f os r k ih = impossible k
+    go (Some x) f None r k ih = impossible k
+    go (Some x) f (Some ys) r k ih =
         let is : x ∷ ys ≡ gs = cc in
         subst (Run d (p ++ 58 ∷ separated 58 (q ∷ ps))) is (next (reads_h16 p x f) (ih ys (omega arith) r))
 
-pub reads_side : (d : Bool) (t gs : List ℕ) → side_of d t ≡ some gs → Side d t gs
+pub reads_side : (d : Bool) (t gs : List ℕ) → side_of d t ≡ Some gs → Side d t gs
 unfolding side_of
 reads_side d [] gs e = let is : [] ≡ gs = cc in subst (Side d []) is nothing
 reads_side d (c ∷ t) gs e =

@@ -1,8 +1,8 @@
 -- Texts that are not read are of no form. Assumes nothing.
+use Rattle.std.specs.Prelude.{Option, Some}
 use mathlib.Core.Path.{◌≡◌, sym, ap, ◌∙◌}
 use mathlib.Core.Bool.{Bool, true, ◌&&◌, and-eq-true_iff, false≢true}
 use mathlib.Core.List.{List, [], ◌∷◌}
-use mathlib.Core.Option.{Option, some}
 use Prim.Native.Nat.{ℕ}
 use Prim.Native.String.{String}
 use Rattle.notation.specs.Ascii.{ascii}
@@ -15,7 +15,7 @@ unfoldable pub unread : (List ℕ → Option Address) → List String → Bool
 unread f [] = true
 unread f (s ∷ ss) = missing (f (ascii s)) && unread f ss
 
-module _ (Form : List ℕ → Address → Type 0) (f : List ℕ → Option Address) (reads : (t : List ℕ) (a : Address) → Form t a → f t ≡ some a) where
+module _ (Form : List ℕ → Address → Type 0) (f : List ℕ → Option Address) (reads : (t : List ℕ) (a : Address) → Form t a → f t ≡ Some a) where
   pub none_of : (ss : List String) → unread f ss ≡ true → NoneOf Form ss
   unfolding unread
   none_of [] e = tt

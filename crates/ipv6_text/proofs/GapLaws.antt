@@ -1,8 +1,8 @@
 -- The first `::` of a text, and the groups before it. Assumes nothing.
+use Rattle.std.specs.Prelude.{Option, Some, None}
 use mathlib.Core.Path.{◌≡◌, refl, sym, ap, ap₂, ◌∙◌}
 use mathlib.Core.Bool.{Bool, true, false, cond, ◌&&◌}
 use mathlib.Core.List.{List, [], ◌∷◌, ◌++◌}
-use mathlib.Core.Option.{Option, some, none}
 use Prim.Native.Nat.{ℕ, zero, suc, ◌+◌, ◌-◌, ◌≤◌, ◌<◌}
 use native.Mathlib.Numerals.{add-one}
 use native.Mathlib.Decide.{dec_lt}
@@ -14,7 +14,6 @@ use lib.Seq.{take_all, take-take, take-add, drop_at, length-take-le}
 use Rattle.notation.specs.Pieces.{index_of, split_on}
 use Rattle.notation.specs.Options.{joined, single}
 use Rattle.notation.proofs.PieceLaws.{index_contains, split_last}
-use Rattle.digits.specs.declared.read.Leading.TheVariants.{Number, Nothing}
 use Rattle.digits.specs.Numerals.{group_of, leading}
 use Rattle.digits.proofs.FirstPieceLaws.{group_reads, piece_nothing, piece_last, piece_more, piece_other}
 use Rattle.ipv4_text.specs.Dotted.{dotted_of}
@@ -117,7 +116,7 @@ gap_two (x ∷ y ∷ t) h = go (eqb x 58 && eqb y 58) h (gap_two (y ∷ t))
     go false h ih = omega (arith, ih (omega arith))
 
 -- a text with `::` has an empty piece, which is no group
-pub gap_pieces : (d : Bool) (n : ℕ) (t : List ℕ) → length t ≤ n → gap_of t < length t → pieces_of d (split_on 58 t) ≡ none
+pub gap_pieces : (d : Bool) (n : ℕ) (t : List ℕ) → length t ≤ n → gap_of t < length t → pieces_of d (split_on 58 t) ≡ None
 gap_pieces d zero t l h = absurd (omega arith)
 gap_pieces d (suc n) t l h = several d t inside ∙ ap (joined first) (go (colon_first rest) refl (gap_pieces d n rest)) ∙ joined_none first
   where
@@ -130,7 +129,7 @@ gap_pieces d (suc n) t l h = several d t inside ∙ ap (joined first) (go (colon
     inside : index_of 58 t < length t
     inside = omega (arith, index_gap t)
 
-    go : (b : Bool) → colon_first rest ≡ b → (length rest ≤ n → gap_of rest < length rest → pieces_of d (split_on 58 rest) ≡ none) → pieces_of d (split_on 58 rest) ≡ none
+    go : (b : Bool) → colon_first rest ≡ b → (length rest ≤ n → gap_of rest < length rest → pieces_of d (split_on 58 rest) ≡ None) → pieces_of d (split_on 58 rest) ≡ None
     go true q ih = colon_pieces d rest q
     go false q ih =
         let r : drop (suc (index_of 58 t)) t ≡ rest = ap (λ k. drop k t) (sym (add-one (index_of 58 t))) in
@@ -152,7 +151,7 @@ module _ (t : List ℕ) where
   unfolding first_side
   first_whole h = ap₂ (λ b u. pieces_of b (split_on 58 u)) (le-leb (length t) (gap_of t) h) (take_all (gap_of t) t h)
 
-  pub first_some : (ys : List ℕ) → first_side t ≡ some ys → 0 < length ys
+  pub first_some : (ys : List ℕ) → first_side t ≡ Some ys → 0 < length ys
   unfolding first_side
   first_some ys = split_some (leb (length t) (gap_of t)) (take (gap_of t) t) ys
 
@@ -161,40 +160,40 @@ module _ (t : List ℕ) where
   front = rw (index_take 58 (gap_of t) t (index_gap t) (gap_le t)) (take-take (index_of 58 t) (gap_of t) t (index_gap t))
 
   -- the first piece is no group: all of the text is an IPv4 text, or it is wrong
-  first_tail : group_of (take (index_of 58 t) t) ≡ none → first_side t ≡ tail_of t
+  first_tail : group_of (take (index_of 58 t) t) ≡ None → first_side t ≡ tail_of t
   unfolding tail_of
   first_tail e = elim (dec_lt (gap_of t) (length t)) [
     | yes h ↦
-        let d : dotted_of t ≡ none = colon_not_dotted t (index_contains 58 t (omega (arith, index_gap t))) in
+        let d : dotted_of t ≡ None = colon_not_dotted t (index_contains 58 t (omega (arith, index_gap t))) in
         first_part_lem h ∙ pieces_tail false (take (gap_of t) t) (ap group_of front ∙ e) ∙ sym (rw d)
     | no n ↦ first_whole (omega arith) ∙ pieces_tail true t e
   ]
 
-  pub first_nothing : Nothing ≡ leading 16 group_of t → first_side t ≡ tail_of t
+  pub first_nothing : None ≡ leading 16 group_of t → first_side t ≡ tail_of t
   first_nothing h = first_tail (piece_nothing 16 58 colon group_of group_reads t h)
 
   -- an IPv4 text has no `::`
-  pub tail_gap : (ys : List ℕ) → tail_of t ≡ some ys → length t ≤ gap_of t
+  pub tail_gap : (ys : List ℕ) → tail_of t ≡ Some ys → length t ≤ gap_of t
   unfolding tail_of
   tail_gap ys e = elim (dec_lt (gap_of t) (length t)) [
     | yes h ↦ let d = colon_not_dotted t (index_contains 58 t (omega (arith, index_gap t))) in let z : ◌≡◌ {A = ℕ} 0 1 = cc in absurd (omega arith)
     | no n ↦ omega arith
   ]
 
-  module _ (x e : ℕ) (h : Number x e ≡ leading 16 group_of t) where
+  module _ (x e : ℕ) (h : Some (x, e) ≡ leading 16 group_of t) where
     pub first_other : e < length t → (get_or t e 0 ≡ 58 → ⊥) → first_side t ≡ tail_of t
     first_other l n = first_tail (piece_other 16 58 colon group_of group_reads t x e h l n)
 
-    pub first_last : length t ≤ e → (first_side t ≡ some (x ∷ [])) × (length t ≤ gap_of t)
+    pub first_last : length t ≤ e → (first_side t ≡ Some (x ∷ [])) × (length t ≤ gap_of t)
     unfolding pieces_of
     first_last l =
         let p = piece_last 16 58 colon group_of group_reads t x e h l in
-        let whole : group_of t ≡ some x = ap group_of (sym (take_all (index_of 58 t) t (omega (arith, p.1)))) ∙ p.0 in
+        let whole : group_of t ≡ Some x = ap group_of (sym (take_all (index_of 58 t) t (omega (arith, p.1)))) ∙ p.0 in
         let long : length t ≤ gap_of t = omega (arith, p.1, index_gap t) in
         (first_whole long ∙ rw (split_last 58 t (omega (arith, p.1)), whole), long)
 
     module _ (l : e < length t) (c : get_or t e 0 ≡ 58) where
-      piece : (group_of (take (index_of 58 t) t) ≡ some x) × (index_of 58 t ≡ e)
+      piece : (group_of (take (index_of 58 t) t) ≡ Some x) × (index_of 58 t ≡ e)
       piece = piece_more 16 58 colon group_of group_reads t x e h l c
 
       inside : index_of 58 t < length t
@@ -203,11 +202,11 @@ module _ (t : List ℕ) where
       behind : drop (suc (index_of 58 t)) t ≡ drop (e + 1) t
       behind = let i : suc (index_of 58 t) ≡ e + 1 = omega (arith, piece.1) in ap (λ k. drop k t) i
 
-      whole : group_of (take e t) ≡ some x
+      whole : group_of (take e t) ≡ Some x
       whole = ap (λ k. group_of (take k t)) (sym piece.1) ∙ piece.0
 
       -- `::` behind the group
-      pub first_gap : colon_first (drop (e + 1) t) ≡ true → (first_side t ≡ some (x ∷ [])) × (gap_of t ≡ e)
+      pub first_gap : colon_first (drop (e + 1) t) ≡ true → (first_side t ≡ Some (x ∷ [])) × (gap_of t ≡ e)
       unfolding pieces_of
       first_gap f =
           let g : gap_of t ≡ e = gap_here t inside (ap colon_first behind ∙ f) ∙ piece.1 in
@@ -218,7 +217,7 @@ module _ (t : List ℕ) where
           )
 
       -- a colon behind the group
-      part_more : (d : Bool) (m : ℕ) → e + 1 + m ≤ length t → pieces_of d (split_on 58 (take (e + 1 + m) t)) ≡ joined (some (x ∷ [])) (pieces_of d (split_on 58 (take m (drop (e + 1) t))))
+      part_more : (d : Bool) (m : ℕ) → e + 1 + m ≤ length t → pieces_of d (split_on 58 (take (e + 1 + m) t)) ≡ joined (Some (x ∷ [])) (pieces_of d (split_on 58 (take m (drop (e + 1) t))))
       part_more d m k =
           let u = take (e + 1 + m) t in
           let i : index_of 58 u ≡ e = index_take 58 (e + 1 + m) t (omega (arith, piece.1)) k ∙ piece.1 in
@@ -226,7 +225,7 @@ module _ (t : List ℕ) where
           ∙ ap (λ k. joined (single (group_of (take k u))) (pieces_of d (split_on 58 (drop (k + 1) u)))) i
           ∙ ap₂ (λ o v. joined (single o) (pieces_of d (split_on 58 v))) (ap group_of (take-take e (e + 1 + m) t (omega arith)) ∙ whole) (drop_take (e + 1) m t (omega arith))
 
-      pub first_more : colon_first (drop (e + 1) t) ≡ false → (first_side t ≡ joined (some (x ∷ [])) (first_side (drop (e + 1) t))) × (gap_of t ≡ e + 1 + gap_of (drop (e + 1) t))
+      pub first_more : colon_first (drop (e + 1) t) ≡ false → (first_side t ≡ joined (Some (x ∷ [])) (first_side (drop (e + 1) t))) × (gap_of t ≡ e + 1 + gap_of (drop (e + 1) t))
       unfolding first_side
       first_more f =
           let r = drop (e + 1) t in

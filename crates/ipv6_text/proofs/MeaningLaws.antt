@@ -1,8 +1,8 @@
 -- What IPv6 text is read as: eight groups of 16 bits. Assumes nothing.
+use Rattle.std.specs.Prelude.{Option, Some, None, option_map}
 use mathlib.Core.Path.{◌≡◌, refl, subst}
 use mathlib.Core.Bool.{Bool, true, false, cond}
 use mathlib.Core.List.{List, [], ◌∷◌, ◌++◌}
-use mathlib.Core.Option.{Option, some, none, map}
 use Prim.Native.Nat.{ℕ, ◌+◌, ◌-◌}
 use native.Mathlib.Omega.{arith}
 use borrow.Author.Tests.{eqb-true, leb-true}
@@ -20,38 +20,38 @@ use Rattle.ipv6_text.specs.EightGroups.{tail_of, pieces_of, side_of, gap_of, fil
 
 -- numbers that are there are groups
 abbrev AllGroups : Option (List ℕ) → Type 0
-AllGroups none = Unit {0}
-AllGroups (some xs) = AllBelow 65536 xs
+AllGroups None = Unit {0}
+AllGroups (Some xs) = AllBelow 65536 xs
 
 joined_groups : (a b : Option (List ℕ)) → AllGroups a → AllGroups b → AllGroups (joined a b)
-joined_groups none b g h = tt
-joined_groups (some xs) none g h = tt
-joined_groups (some xs) (some ys) g h = below_append 65536 xs ys g h
+joined_groups None b g h = tt
+joined_groups (Some xs) None g h = tt
+joined_groups (Some xs) (Some ys) g h = below_append 65536 xs ys g h
 
 group_groups : (p : List ℕ) → AllGroups (single (group_of p))
 group_groups p = go (group_of p) refl
   where
     go : (o : Option ℕ) → group_of p ≡ o → AllGroups (single o)
-    go none e = tt
-    go (some x) e = ((group_digits p x e).1, tt)
+    go None e = tt
+    go (Some x) e = ((group_digits p x e).1, tt)
 
 tail_groups : (p : List ℕ) → AllGroups (tail_of p)
 unfolding tail_of
 tail_groups p = go (dotted_of p)
   where
-    go : (o : Option ℕ) → AllGroups (map (digits_of 65536 2) o)
-    go none = tt
-    go (some v) = digits_below 65536 (lit< tt) 2 v
+    go : (o : Option ℕ) → AllGroups (option_map (digits_of 65536 2) o)
+    go None = tt
+    go (Some v) = digits_below 65536 (lit< tt) 2 v
 
 pieces_groups : (d : Bool) (ps : List (List ℕ)) → AllGroups (pieces_of d ps)
 unfolding pieces_of
 pieces_groups d [] = tt
 pieces_groups d (p ∷ []) = go (single (group_of p)) d (group_groups p)
   where
-    go : (o : Option (List ℕ)) (d : Bool) → AllGroups o → AllGroups (or_else o (cond d (tail_of p) none))
-    go none true g = tail_groups p
-    go none false g = tt
-    go (some xs) d g = g
+    go : (o : Option (List ℕ)) (d : Bool) → AllGroups o → AllGroups (or_else o (cond d (tail_of p) None))
+    go None true g = tail_groups p
+    go None false g = tt
+    go (Some xs) d g = g
 pieces_groups d (p ∷ q ∷ ps) = joined_groups (single (group_of p)) (pieces_of d (q ∷ ps)) (group_groups p) (pieces_groups d (q ∷ ps))
 
 side_groups : (d : Bool) (t : List ℕ) → AllGroups (side_of d t)
@@ -64,15 +64,15 @@ pub record EightGroups (gs : List ℕ) : Type 0 where
   pub count : length gs ≡ 8
   pub small : AllBelow 65536 gs
 
-filled_eight : (a b : Option (List ℕ)) (gs : List ℕ) → AllGroups a → AllGroups b → filled a b ≡ some gs → EightGroups gs
-filled_eight none b gs g h e = impossible e
-filled_eight (some xs) none gs g h e = impossible e
-filled_eight (some xs) (some ys) gs g h e = go (leb (length xs + length ys) 7) refl e
+filled_eight : (a b : Option (List ℕ)) (gs : List ℕ) → AllGroups a → AllGroups b → filled a b ≡ Some gs → EightGroups gs
+filled_eight None b gs g h e = impossible e
+filled_eight (Some xs) None gs g h e = impossible e
+filled_eight (Some xs) (Some ys) gs g h e = go (leb (length xs + length ys) 7) refl e
   where
     n : ℕ
     n = 8 - (length xs + length ys)
 
-    go : (b : Bool) → leb (length xs + length ys) 7 ≡ b → cond b (some (xs ++ (replicate n 0 ++ ys))) none ≡ some gs → EightGroups gs
+    go : (b : Bool) → leb (length xs + length ys) 7 ≡ b → cond b (Some (xs ++ (replicate n 0 ++ ys))) None ≡ Some gs → EightGroups gs
     go true l k =
         let few = leb-true (length xs + length ys) 7 l in
         let is : xs ++ (replicate n 0 ++ ys) ≡ gs = cc in
@@ -82,15 +82,15 @@ filled_eight (some xs) (some ys) gs g h e = go (leb (length xs + length ys) 7) r
         })
     go false l k = impossible k
 
-eight_eight : (a : Option (List ℕ)) (gs : List ℕ) → AllGroups a → eight a ≡ some gs → EightGroups gs
-eight_eight none gs g e = impossible e
-eight_eight (some xs) gs g e = go (eqb (length xs) 8) refl e
+eight_eight : (a : Option (List ℕ)) (gs : List ℕ) → AllGroups a → eight a ≡ Some gs → EightGroups gs
+eight_eight None gs g e = impossible e
+eight_eight (Some xs) gs g e = go (eqb (length xs) 8) refl e
   where
-    go : (b : Bool) → eqb (length xs) 8 ≡ b → cond b (some xs) none ≡ some gs → EightGroups gs
+    go : (b : Bool) → eqb (length xs) 8 ≡ b → cond b (Some xs) None ≡ Some gs → EightGroups gs
     go true l k = let is : xs ≡ gs = cc in subst EightGroups is (record { count = eqb-true (length xs) 8 l; small = g })
     go false l k = impossible k
 
-pub eight_groups : (t gs : List ℕ) → eight_of t ≡ some gs → EightGroups gs
+pub eight_groups : (t gs : List ℕ) → eight_of t ≡ Some gs → EightGroups gs
 unfolding eight_of
 eight_groups t gs e = go (ltb (gap_of t) (length t)) e
   where
@@ -100,6 +100,6 @@ eight_groups t gs e = go (ltb (gap_of t) (length t)) e
     right : Option (List ℕ)
     right = side_of true (drop (gap_of t + 2) t)
 
-    go : (b : Bool) → cond b (filled left right) (eight (side_of true t)) ≡ some gs → EightGroups gs
+    go : (b : Bool) → cond b (filled left right) (eight (side_of true t)) ≡ Some gs → EightGroups gs
     go true k = filled_eight left right gs (side_groups false (take (gap_of t) t)) (side_groups true (drop (gap_of t + 2) t)) k
     go false k = eight_eight (side_of true t) gs (side_groups true t) k

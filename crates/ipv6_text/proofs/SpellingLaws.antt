@@ -1,8 +1,8 @@
 -- Any spelling of groups is read as its numbers, with `::` for any of the zeros. Assumes nothing.
+use Rattle.std.specs.Prelude.{Some}
 use mathlib.Core.Path.{◌≡◌, refl, sym, ap, ◌∙◌}
 use mathlib.Core.Bool.{Bool, true, false}
 use mathlib.Core.List.{List, [], ◌∷◌, ◌++◌, append_assoc, append-nil}
-use mathlib.Core.Option.{some}
 use Prim.Native.Nat.{ℕ, suc, ◌+◌, ◌-◌, ◌≤◌, ◌<◌}
 use native.Mathlib.Omega.{arith}
 use borrow.Author.Tests.{eq-eqb, le-leb, lt-ltb, le-ltb}
@@ -24,7 +24,7 @@ record Group (p : List ℕ) : Type 0 where
   lacks : Lacks 58 p
   any : 0 < length p
 
-group_piece : (p : List ℕ) (x : ℕ) → group_of p ≡ some x → Group p
+group_piece : (p : List ℕ) (x : ℕ) → group_of p ≡ Some x → Group p
 unfolding digit_of
 group_piece p x e = let d = (group_digits p x e).0 in record { lacks = no_digit 16 58 p (lit≤ tt) refl d.all; any = d.any }
 
@@ -55,13 +55,13 @@ gap_separated (p ∷ q ∷ ps) t g = gap_join p (separated 58 (q ∷ ps)) t g.0.
 
 -- ---- groups on one side of `::`
 
-pieces_read : (d : Bool) {ps : List (List ℕ)} {xs : List ℕ} → Reads group_of ps xs → pieces_of d ps ≡ some xs
+pieces_read : (d : Bool) {ps : List (List ℕ)} {xs : List ℕ} → Reads group_of ps xs → pieces_of d ps ≡ Some xs
 unfolding pieces_of
 pieces_read d done = refl
 pieces_read d (more e done) = rw e
 pieces_read d (more e (more f r)) = rw (e, pieces_read d (more f r))
 
-side_read : (d : Bool) {ps : List (List ℕ)} {xs : List ℕ} → Reads group_of ps xs → side_of d (separated 58 ps) ≡ some xs
+side_read : (d : Bool) {ps : List (List ℕ)} {xs : List ℕ} → Reads group_of ps xs → side_of d (separated 58 ps) ≡ Some xs
 unfolding side_of separated
 side_read d done = refl
 side_read d (more {p = []} {x} e r) = absurd (omega (arith, (group_piece [] x e).any))
@@ -76,7 +76,7 @@ side_read d (more {p = c ∷ p} {ps} e r) =
 -- ---- IPv6
 
 -- groups with single colons
-pub eight_spelling : (ps : List (List ℕ)) (gs : List ℕ) → every group_of ps ≡ some gs → length gs ≡ 8 → eight_of (separated 58 ps) ≡ some gs
+pub eight_spelling : (ps : List (List ℕ)) (gs : List ℕ) → every group_of ps ≡ Some gs → length gs ≡ 8 → eight_of (separated 58 ps) ≡ Some gs
 unfolding eight_of
 eight_spelling ps gs e h =
     let r = every_reads group_of ps gs e in
@@ -85,8 +85,8 @@ eight_spelling ps gs e h =
     rw (le-ltb (gap_of t) (length t) (omega arith), side_read true r, eq-eqb (length gs) 8 h)
 
 -- and with `::` for one or more zeros
-pub gap_spelling : (ls rs : List (List ℕ)) (xs ys : List ℕ) → every group_of ls ≡ some xs → every group_of rs ≡ some ys → length xs + length ys ≤ 7
-    → eight_of (separated 58 ls ++ (58 ∷ 58 ∷ separated 58 rs)) ≡ some (xs ++ (replicate (8 - (length xs + length ys)) 0 ++ ys))
+pub gap_spelling : (ls rs : List (List ℕ)) (xs ys : List ℕ) → every group_of ls ≡ Some xs → every group_of rs ≡ Some ys → length xs + length ys ≤ 7
+    → eight_of (separated 58 ls ++ (58 ∷ 58 ∷ separated 58 rs)) ≡ Some (xs ++ (replicate (8 - (length xs + length ys)) 0 ++ ys))
 unfolding eight_of
 gap_spelling ls rs xs ys e f h =
     let l = separated 58 ls in

@@ -1,162 +1,140 @@
 // The eight groups of IPv6 text, read.
 #![tactic(auto)]
 
-ghost use Rattle.std.specs.Prelude.{◌≡◌, true, List, ℕ, ◌≤◌, ◌<◌, length, take, get_or};
-ghost use Rattle.std.proofs.Math.Option.{Option, some};
+ghost use Rattle.std.specs.Prelude.{◌≡◌, true, List, ℕ, ◌≤◌, ◌<◌, length, take, get_or, Option, Some};
 ghost use Rattle.notation.specs.Options.{joined};
-ghost use Rattle.ipv6_text.specs.Inner.{HoldsGroups, ReadsSide, LaidOut, colon_first, gap_first, expanded};
-ghost use Rattle.ipv6_text.specs.EightGroups.{tail_of, side_of, filled, eight, eight_of, as_eight};
+ghost use Rattle.ipv6_text.specs.Inner.{HoldsGroups, count_of, sided, ReadsSide, LaidOut, colon_first, gap_first, expanded};
+ghost use Rattle.ipv6_text.specs.EightGroups.{tail_of, side_of, filled, eight, eight_of};
 
 use digits::groups::leading_group;
-use digits::read::Leading;
-use ipv4_text::{Dotted, read_dotted};
+use ipv4_text::read_dotted;
 
-// Eight groups, if `ok`; else all are zero.
-#[derive(Clone, Copy)]
-pub struct Eight {
-    pub ok: bool,
-    pub groups: [u16; 8],
-}
-
-// Where the groups that were read belong: the first `gap` of `count` at the front, the others at the end. A count of 9 is a refusal.
+// Where the groups that were read belong: the first `gap` of `count` at the front, the others at the end.
 #[derive(Clone, Copy)]
 struct Layout {
     count: usize,
     gap: usize,
 }
 
-// What was read on one side of `::`: how many groups there are then, or 9, and the index behind `::`, or 0 where none was reached.
+// What was read on one side of `::`: how many groups there are then, and the index behind `::`, where one was reached.
 #[derive(Clone, Copy)]
 struct Side {
     count: usize,
-    next: usize,
+    next: Option<usize>,
 }
 
 // The layout of groups with no `::` among them.
-fn without_gap(count: usize) -> Layout
+fn without_gap(count: usize) -> Option<Layout>
     ensures { (gs : List ℕ) (o : Option (List ℕ)) → HoldsGroups gs count o → LaidOut gs result (eight o) }
 {
     if count == 8 {
-        return Layout { count: 8, gap: 8 };
+        return Some(Layout { count: 8, gap: 8 });
     }
-    Layout { count: 9, gap: 0 }
+    None
 }
 
 // The layout of groups with `::` behind the first `gap` of them.
-fn with_gap(count: usize, gap: usize) -> Layout
-    ensures { (gs xs : List ℕ) (o : Option (List ℕ)) → length xs ≡ gap → HoldsGroups gs count (joined (some xs) o) → LaidOut gs result (filled (some xs) o) }
+fn with_gap(count: usize, gap: usize) -> Option<Layout>
+    ensures { (gs xs : List ℕ) (o : Option (List ℕ)) → length xs ≡ gap → HoldsGroups gs count (joined (Some xs) o) → LaidOut gs result (filled (Some xs) o) }
 {
     if 7 < count {
-        return Layout { count: 9, gap: 0 };
+        return None;
     }
-    Layout { count, gap }
+    Some(Layout { count, gap })
 }
 
-// Puts the two groups of a strict IPv4 text behind the first `n`. Answers how many groups there are then, or 9.
-fn put_tail(text: &[u8], groups: &mut [u16; 8], n: usize) -> usize
+// Puts the two groups of a strict IPv4 text behind the first `n`. Answers how many groups there are then.
+fn put_tail(text: &[u8], groups: &mut [u16; 8], n: usize) -> Option<usize>
     requires { (length groups.old ≡ 8) × (n ≤ 8) }
-    ensures { HoldsGroups groups.new result (joined (some (take n groups.old)) (tail_of text.now)) }
+    ensures { HoldsGroups groups.new (count_of result) (joined (Some (take n groups.old)) (tail_of text.now)) }
 {
     if 6 < n {
-        return 9;
+        return None;
     }
-    let Dotted::Value(v) = read_dotted(text) else {
-        return 9;
-    };
+    let v = read_dotted(text)?;
     groups[n] = (v / 65536) as u16;
     groups[n + 1] = (v % 65536) as u16;
-    n + 2
+    Some(n + 2)
 }
 
 // Whether a text begins with a colon.
 fn starts_with_colon(text: &[u8]) -> bool
     ensures { result ≡ colon_first text.now }
 {
-    if text.len() == 0 {
-        return false;
-    }
-    text[0] == b':'
+    matches!(text, [b':', ..])
 }
 
 // Whether a text begins with `::`.
 fn starts_with_gap(text: &[u8]) -> bool
     ensures { result ≡ gap_first text.now }
 {
-    if text.len() < 2 {
-        return false;
-    }
-    if text[0] != b':' {
-        return false;
-    }
-    text[1] == b':'
+    matches!(text, [b':', b':', ..])
 }
 
 // Puts the groups up to `::` or the end of the text behind the first `from`. One loop for both sides of `::`, so that the compiler
 // puts the reading of a group into it.
-fn read_side(text: &[u8], groups: &mut [u16; 8], from: usize) -> Side
+fn read_side(text: &[u8], groups: &mut [u16; 8], from: usize) -> Option<Side>
     requires { (length groups.old ≡ 8) × (from ≤ 8) }
-    ensures { ReadsSide (take from groups.old) groups.new text.now result }
+    ensures { ReadsSide (take from groups.old) groups.new text.now (sided result) }
 {
-    let mut n = from;
     let mut rest = text;
-    while n < 8 {
-        let Leading::Number(x, end) = leading_group(rest) else {
-            let count = put_tail(rest, groups, n);
-            return Side { count, next: 0 };
+    for n in from..8 {
+        let Some((x, end)) = leading_group(rest) else {
+            let count = put_tail(rest, groups, n)?;
+            return Some(Side { count, next: None });
         };
         if rest.len() <= end {
             groups[n] = x as u16;
-            return Side {
+            return Some(Side {
                 count: n + 1,
-                next: 0,
-            };
+                next: None,
+            });
         }
         if rest[end] != b':' {
-            let count = put_tail(rest, groups, n);
-            return Side { count, next: 0 };
+            let count = put_tail(rest, groups, n)?;
+            return Some(Side { count, next: None });
         }
         groups[n] = x as u16;
-        n += 1;
         rest = &rest[end + 1..];
         if starts_with_colon(rest) {
-            let next = text.len() - rest.len() + 1;
-            return Side { count: n, next };
+            let next = Some(text.len() - rest.len() + 1);
+            return Some(Side { count: n + 1, next });
         }
     }
-    Side { count: 9, next: 0 }
+    None
 }
 
-// Puts the groups to the right of `::` behind the first `from`. Answers how many groups there are then, or 9.
-fn read_right(text: &[u8], groups: &mut [u16; 8], from: usize) -> usize
+// Puts the groups to the right of `::` behind the first `from`. Answers how many groups there are then.
+fn read_right(text: &[u8], groups: &mut [u16; 8], from: usize) -> Option<usize>
     requires { (length groups.old ≡ 8) × (from ≤ 8) }
-    ensures { HoldsGroups groups.new result (joined (some (take from groups.old)) (side_of true text.now)) }
+    ensures { HoldsGroups groups.new (count_of result) (joined (Some (take from groups.old)) (side_of true text.now)) }
 {
     if text.len() == 0 {
-        return from;
+        return Some(from);
     }
-    let side = read_side(text, groups, from);
-    let next = side.next;
-    if 0 < next {
-        return 9;
+    let side = read_side(text, groups, from)?;
+    match side.next {
+        Some(_) => None,
+        None => Some(side.count),
     }
-    side.count
 }
 
 // The groups of a strict IPv6 text, one after the other, and where they belong.
-fn read_groups(text: &[u8], groups: &mut [u16; 8]) -> Layout
+fn read_groups(text: &[u8], groups: &mut [u16; 8]) -> Option<Layout>
     requires { length groups.old ≡ 8 }
     ensures { LaidOut groups.new result (eight_of text.now) }
 {
     if starts_with_gap(text) {
-        return with_gap(read_right(&text[2..], groups, 0), 0);
+        let count = read_right(&text[2..], groups, 0)?;
+        return with_gap(count, 0);
     }
-    let left = read_side(text, groups, 0);
-    let count = left.count;
-    let next = left.next;
-    if next == 0 {
-        return without_gap(count);
-    }
-    with_gap(read_right(&text[next..], groups, count), count)
+    let left = read_side(text, groups, 0)?;
+    let gap = left.count;
+    let Some(next) = left.next else {
+        return without_gap(gap);
+    };
+    let count = read_right(&text[next..], groups, gap)?;
+    with_gap(count, gap)
 }
 
 // The group at one of the eight places. Both groups are looked up before the choice, so that the compiler makes it without a branch.
@@ -193,25 +171,14 @@ fn expand(groups: &[u16; 8], count: usize, gap: usize) -> [u16; 8]
 }
 
 // The eight groups of a strict IPv6 text.
-pub fn read_eight(text: &[u8]) -> Eight
-    ensures { result ≡ as_eight (eight_of text.now) }
+pub fn read_eight(text: &[u8]) -> Option<[u16; 8]>
+    ensures { result ≡ (eight_of text.now) }
 {
     let mut groups = [0u16; 8];
-    let layout = read_groups(text, &mut groups);
+    let layout = read_groups(text, &mut groups)?;
     let count = layout.count;
-    let gap = layout.gap;
-    if 8 < count {
-        return Eight {
-            ok: false,
-            groups: [0u16; 8],
-        };
+    if count == 8 {
+        return Some(groups);
     }
-    if 8 <= count {
-        return Eight { ok: true, groups };
-    }
-    let all = expand(&groups, count, gap);
-    Eight {
-        ok: true,
-        groups: all,
-    }
+    Some(expand(&groups, count, layout.gap))
 }

@@ -1,8 +1,8 @@
 -- How a part of a loose text begins, and what the code finds at the start of a text says of its first part. Assumes nothing.
+use Rattle.std.specs.Prelude.{Option, Some, None}
 use mathlib.Core.Path.{◌≡◌, refl, sym, ap, ap₂, ◌∙◌}
 use mathlib.Core.Bool.{Bool, true, false, cond, ◌&&◌, ◌||◌, and-eq-true_iff, false≢true}
 use mathlib.Core.List.{List, [], ◌∷◌}
-use mathlib.Core.Option.{Option, some, none}
 use Prim.Native.Nat.{ℕ, suc, ◌+◌, ◌-◌, ◌≤◌, ◌<◌}
 use native.Mathlib.Nat.{zero-add}
 use native.Mathlib.Omega.{arith}
@@ -10,10 +10,9 @@ use borrow.Author.Tests.{eq-eqb, ne_eqb, eqb-true}
 use lib.Dec.{eqb, lit≤}
 use lib.ListN.{length, take, drop, get_or, length-drop}
 use lib.Seq.{length-take-le, take-add, drop_at, get_or-drop}
+use Rattle.notation.proofs.OptionLaws.{impossible, same_pair}
 use Rattle.notation.specs.Pieces.{index_of}
 use Rattle.notation.proofs.SliceLaws.{to_end}
-use Rattle.digits.specs.declared.read.Leading.{Leading}
-use Rattle.digits.specs.declared.read.Leading.TheVariants.{Number, Nothing}
 use Rattle.digits.specs.Numerals.{digit_of, text_number, at_most, bounded_number, hex_marked, leading}
 use Rattle.digits.proofs.LeadingLaws.{count_le}
 use Rattle.digits.proofs.MarkLaws.{marked_long}
@@ -142,13 +141,13 @@ unfolding digit_of
 dot t = base_le t
 
 -- with the bytes before the digits, and without them
-marked_says : (k x e : ℕ) (l : Leading) → Number x e ≡ marked k l → (n : ℕ) × (e ≡ k + n) × (Number x n ≡ l)
-marked_says k x e (Number v n) h = (n, cc, let s : x ≡ v = cc in ap (λ (y : ℕ). Number y n) s)
-marked_says k x e Nothing h = let z : ◌≡◌ {A = ℕ} 0 1 = cc in absurd (omega arith)
+marked_says : (k x e : ℕ) (l : Option (ℕ × ℕ)) → Some (x, e) ≡ marked k l → (n : ℕ) × (e ≡ k + n) × (Some (x, n) ≡ l)
+marked_says k x e (Some (v, n)) h = let p = same_pair h in (n, p.1, ap (λ (y : ℕ). Some (y, n)) p.0)
+marked_says k x e None h = impossible (sym h)
 
-marked_nothing : (k : ℕ) (l : Leading) → Nothing ≡ marked k l → Nothing ≡ l
-marked_nothing k (Number v n) h = let z : ◌≡◌ {A = ℕ} 0 1 = cc in absurd (omega arith)
-marked_nothing k Nothing h = refl
+marked_nothing : (k : ℕ) (l : Option (ℕ × ℕ)) → None ≡ marked k l → None ≡ l
+marked_nothing k (Some (v, n)) h = impossible h
+marked_nothing k None h = refl
 
 -- the first part as a number of at most 32 bits
 abbrev pub first_part : List ℕ → Option ℕ
@@ -166,11 +165,11 @@ module _ (t : List ℕ) where
   only = bounded_reads (base_of t) 4294967295
 
   -- as the code reads it
-  pub found_is : (k b : ℕ) (l : Leading) → k ≡ mark_of t → b ≡ base_of t → l ≡ leading b (bounded_number b 4294967295) (take (length t - k) (drop k t)) → marked k l ≡ leading_loose t
+  pub found_is : (k b : ℕ) (l : Option (ℕ × ℕ)) → k ≡ mark_of t → b ≡ base_of t → l ≡ leading b (bounded_number b 4294967295) (take (length t - k) (drop k t)) → marked k l ≡ leading_loose t
   unfolding leading_loose
   found_is k b l m n h = rw (h, n, m, to_end (mark_of t) t)
 
-  pub found_short : (k b m x n : ℕ) → Number x n ≡ leading b (bounded_number b m) (take (length t - k) (drop k t)) → n ≤ length t - k
+  pub found_short : (k b m x n : ℕ) → Some (x, n) ≡ leading b (bounded_number b m) (take (length t - k) (drop k t)) → n ≤ length t - k
   found_short k b m x n h =
       let rest = drop k t in
       omega (arith, (leading_says b (bounded_number b m) (take (length t - k) rest) x n h).1, count_le b (take (length t - k) rest), ap length (to_end k t), length-drop k t)
@@ -178,30 +177,30 @@ module _ (t : List ℕ) where
   bounded_first : first_part t ≡ bounded (first behind)
   bounded_first = ap (at_most 4294967295) (first_part_lem t)
 
-  pub found_nothing : Nothing ≡ leading_loose t → first_part t ≡ none
+  pub found_nothing : None ≡ leading_loose t → first_part t ≡ None
   unfolding leading_loose
   found_nothing h = bounded_first ∙ piece_nothing (base_of t) 46 (dot t) bounded only behind (marked_nothing (mark_of t) _ h)
 
-  module _ (x e : ℕ) (h : Number x e ≡ leading_loose t) where
-    found : (n : ℕ) × (e ≡ mark_of t + n) × (Number x n ≡ leading (base_of t) bounded behind)
+  module _ (x e : ℕ) (h : Some (x, e) ≡ leading_loose t) where
+    found : (n : ℕ) × (e ≡ mark_of t + n) × (Some (x, n) ≡ leading (base_of t) bounded behind)
     unfolding leading_loose
     found = marked_says (mark_of t) x e _ h
 
     byte : get_or behind found.0 0 ≡ get_or t e 0
     byte = get_or-drop (mark_of t) t found.0 0 ∙ ap (λ (i : ℕ). get_or t i 0) (sym found.1)
 
-    ends : (bounded (first behind) ≡ some x) × (index_of 46 behind ≡ found.0) → (first_part t ≡ some x) × (index_of 46 t ≡ e)
+    ends : (bounded (first behind) ≡ Some x) × (index_of 46 behind ≡ found.0) → (first_part t ≡ Some x) × (index_of 46 t ≡ e)
     ends p = (bounded_first ∙ p.0, omega (arith, mark_index t, found.1, p.1))
 
     -- the digits end with the text, or at a dot
-    pub found_last : length t ≤ e → (first_part t ≡ some x) × (index_of 46 t ≡ e)
+    pub found_last : length t ≤ e → (first_part t ≡ Some x) × (index_of 46 t ≡ e)
     found_last l = ends (piece_last (base_of t) 46 (dot t) bounded only behind x found.0 found.2 (omega (arith, found.1, length-drop (mark_of t) t)))
 
-    pub found_more : e < length t → get_or t e 0 ≡ 46 → (first_part t ≡ some x) × (index_of 46 t ≡ e)
+    pub found_more : e < length t → get_or t e 0 ≡ 46 → (first_part t ≡ Some x) × (index_of 46 t ≡ e)
     found_more l d = ends (piece_more (base_of t) 46 (dot t) bounded only behind x found.0 found.2 (omega (arith, found.1, length-drop (mark_of t) t)) (byte ∙ d))
 
     -- or at another byte
-    pub found_other : e < length t → (get_or t e 0 ≡ 46 → ⊥) → first_part t ≡ none
+    pub found_other : e < length t → (get_or t e 0 ≡ 46 → ⊥) → first_part t ≡ None
     found_other l d =
         bounded_first
         ∙ piece_other (base_of t) 46 (dot t) bounded only behind x found.0 found.2 (omega (arith, found.1, length-drop (mark_of t) t)) λ same. d (sym byte ∙ same)

@@ -1,6 +1,5 @@
 -- The loose IPv4 form (01, "Loose IPv4 form"; documents 001 and 003). A text is the list of its bytes. Assumes nothing.
-use Rattle.std.specs.Prelude.{Bool, false, cond, List, [], ◌∷◌, ℕ, zero, suc, ◌^◌, ltb, eqb, length, drop}
-use Rattle.std.proofs.Math.Option.{Option, some, none, map}
+use Rattle.std.specs.Prelude.{Bool, false, cond, List, [], ◌∷◌, ℕ, zero, suc, ◌^◌, ltb, eqb, length, drop, Option, Some, None, option_map}
 use Rattle.notation.specs.BigEndian.{digits_of, number_of}
 use Rattle.notation.specs.Pieces.{split_on}
 use Rattle.notation.specs.Options.{every}
@@ -33,20 +32,20 @@ loose_part p = text_number (base_of p) (drop (mark_of p) p)
 -- 16,777,215 or 4,294,967,295 where there are four, three, two or one parts". There are none for more parts than octets.
 unfoldable pub octets_from : ℕ → List ℕ → Option (List ℕ)
 unfolding digits_of
-octets_from zero xs = none
-octets_from (suc k) [] = none
-octets_from (suc k) (x ∷ []) = cond (ltb x (256 ^ suc k)) (some (digits_of 256 (suc k) x)) none
-octets_from (suc k) (x ∷ y ∷ ys) = cond (ltb x 256) (map (λ bs. x ∷ bs) (octets_from k (y ∷ ys))) none
+octets_from zero xs = None
+octets_from (suc k) [] = None
+octets_from (suc k) (x ∷ []) = cond (ltb x (256 ^ suc k)) (Some (digits_of 256 (suc k) x)) None
+octets_from (suc k) (x ∷ y ∷ ys) = cond (ltb x 256) (option_map (λ bs. x ∷ bs) (octets_from k (y ∷ ys))) None
 
 -- the four octets of "one to four parts"
 abbrev pub combined : Option (List ℕ) → Option (List ℕ)
-combined none = none
-combined (some xs) = octets_from 4 xs
+combined None = None
+combined (Some xs) = octets_from 4 xs
 
 -- the address of a loose text
 unfoldable pub loose_of : List ℕ → Option Address
 unfolding loose_part octets_from every number_of split_on
-loose_of t = map (λ bs. V4 (number_of 256 bs)) (combined (every loose_part (split_on 46 t)))
+loose_of t = option_map (λ bs. V4 (number_of 256 bs)) (combined (every loose_part (split_on 46 t)))
 
 -- what reading answers: "the text is longer than 64 bytes", or the address
 unfoldable pub loose_answer : List ℕ → Answer Address

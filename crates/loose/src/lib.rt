@@ -1,15 +1,14 @@
 // The loose IPv4 form, read: one to four parts in hexadecimal, octal or decimal.
 #![tactic(auto)]
 
-ghost use Rattle.std.specs.Prelude.{◌≡◌, cond, [], ◌+◌, ◌-◌, ◌*◌, ◌^◌, ◌≤◌, ◌<◌, ltb};
-ghost use Rattle.std.proofs.Math.Option.{some, none};
-ghost use Rattle.address.specs.Answers.{precedence, no_address, reading_answer, read_answer};
+ghost use Rattle.std.specs.Prelude.{◌≡◌, cond, ◌+◌, ◌-◌, ◌*◌, ◌^◌, ◌≤◌, ◌<◌, ltb, Some, None};
+ghost use Rattle.address.specs.Answers.{reading_answer};
 ghost use Rattle.address.specs.declared.Address.TheVariants.{V4};
 ghost use Rattle.loose.specs.Inner.{leading_loose};
-ghost use Rattle.loose.specs.Loose.{base_of, mark_of, loose_answer};
+ghost use Rattle.loose.specs.Loose.{base_of, mark_of, loose_of, loose_answer};
 
-use address::{Address, Reading, Refusal};
-use digits::read::{Leading, hex_marked, leading_number};
+use address::{Address, Refusal};
+use digits::read::{hex_marked, leading_number};
 
 // The base that a text says by how it begins.
 fn base(text: &[u8]) -> u8
@@ -18,10 +17,10 @@ fn base(text: &[u8]) -> u8
     if hex_marked(text) {
         return 16;
     }
-    if text.len() == 0 {
-        return 10;
+    match text {
+        [b'0', ..] => 8,
+        _ => 10,
     }
-    if text[0] == b'0' { 8 } else { 10 }
 }
 
 // How many bytes stand before the digits.
@@ -32,54 +31,55 @@ fn mark(text: &[u8]) -> usize
 }
 
 // The part that a text begins with: its number, and how many bytes it has.
-fn leading_loose(text: &[u8]) -> Leading
+fn leading_loose(text: &[u8]) -> Option<(u32, usize)>
     ensures { result ≡ leading_loose text.now }
 {
     let skip = mark(text);
-    let Leading::Number(value, count) = leading_number(&text[skip..], base(text), 4294967295) else {
-        return Leading::Nothing;
-    };
-    Leading::Number(value, skip + count)
+    let (value, count) = leading_number(&text[skip..], base(text), 4294967295)?;
+    Some((value, skip + count))
 }
 
 // The address of octets that write `value` and a last part, which fills the octets that are left.
-fn last_part(value: u32, part: u32, left: u32) -> Reading
+fn last_part(value: u32, part: u32, left: u32) -> Option<Address>
     requires { (left ≤ 4) × (value < 256 ^ (4 - left)) }
-    ensures { reading_answer result ≡ read_answer precedence no_address [] (cond (ltb part (256 ^ left)) (some (V4 (value * 256 ^ left + part))) none) }
+    ensures { result ≡ cond (ltb part (256 ^ left)) (Some (V4 (value * 256 ^ left + part))) None }
 {
     let room = 1u64 << (8 * left);
     if room <= (part as u64) {
-        return Reading::Refused(Refusal::Malformed);
+        return None;
     }
-    Reading::Read(Address::V4(((value as u64) * room + (part as u64)) as u32))
+    Some(Address::V4(((value as u64) * room + (part as u64)) as u32))
 }
 
-// The address of a loose text: one to four parts with dots between them.
-pub fn read_loose(text: &[u8]) -> Reading
+// The address of one to four parts with dots between them.
+fn read_parts(text: &[u8]) -> Option<Address>
+    ensures { result ≡ loose_of text.now }
+{
+    let mut rest = text;
+    let mut value: u32 = 0;
+    for n in 0..4 {
+        let (part, end) = leading_loose(rest)?;
+        if rest.len() <= end {
+            return last_part(value, part, 4 - n);
+        }
+        if rest[end] != b'.' {
+            return None;
+        }
+        if 255 < part {
+            return None;
+        }
+        value = value * 256 + part;
+        rest = &rest[end + 1..];
+    }
+    None
+}
+
+// The address of a loose text.
+pub fn read_loose(text: &[u8]) -> Result<Address, Refusal>
     ensures { reading_answer result ≡ loose_answer text.now }
 {
     if 64 < text.len() {
-        return Reading::Refused(Refusal::TextTooLong);
+        return Err(Refusal::TextTooLong);
     }
-    let mut rest = text;
-    let mut value: u32 = 0;
-    let mut left: u32 = 4;
-    while 0 < left {
-        let Leading::Number(part, end) = leading_loose(rest) else {
-            return Reading::Refused(Refusal::Malformed);
-        };
-        if rest.len() <= end {
-            return last_part(value, part, left);
-        }
-        if rest[end] != b'.' {
-            return Reading::Refused(Refusal::Malformed);
-        }
-        if 255 < part {
-            return Reading::Refused(Refusal::Malformed);
-        }
-        value = value * 256 + part;
-        left -= 1;
-        rest = &rest[end + 1..];
-    }
-    Reading::Refused(Refusal::Malformed)
+    read_parts(text).ok_or(Refusal::Malformed)
 }

@@ -1,7 +1,8 @@
 -- What is claimed of the network form: text that was written, and read again (01, "Network form"). Assumes nothing.
+use Rattle.address.specs.declared.Refusal.{Refusal}
+use Rattle.std.specs.Prelude.{Some, Result}
 use mathlib.Core.Path.{◌≡◌, refl, ap, ◌∙◌}
 use mathlib.Core.List.{List, [], ◌∷◌, ◌++◌}
-use mathlib.Core.Option.{some}
 use Prim.Native.Nat.{ℕ, ◌-◌, ◌/◌, ◌%◌, ◌^◌, ◌≤◌, ◌<◌, max}
 use native.Mathlib.Nat.{mul-div_cancel, mul-mod_left}
 use native.Mathlib.Omega.{arith}
@@ -12,7 +13,7 @@ use Rattle.notation.specs.BigEndian.{digits_of}
 use Rattle.address.specs.declared.Address.{Address}
 use Rattle.address.specs.declared.Address.TheVariants.{V4}
 use Rattle.address.specs.Addresses.{number}
-use Rattle.address.specs.Answers.{gives, write_answer, write_leaves, Cases, given, not_given}
+use Rattle.address.specs.Answers.{gives, write_answer, write_leaves}
 use Rattle.address.proofs.AnswerLaws.{read_held, good_no_reason}
 use Rattle.address.proofs.Claims.{one_answer}
 use Rattle.octets.specs.Octets.{octets}
@@ -20,8 +21,6 @@ use Rattle.digits.specs.Numerals.{numeral}
 use Rattle.network.specs.GivenBytes.{zero_filled}
 use Rattle.network.specs.NetworkText.{size_bytes, cleared, network_text, write_network_refusal}
 use Rattle.network.specs.Network.{Network, network_of, network_answer, network_leaves, network_reading_answer}
-use Rattle.network.specs.declared.NetworkReading.{NetworkReading}
-use Rattle.network.specs.declared.NetworkReading.TheVariants.{Read, Refused}
 use Rattle.network.proofs.TextLaws.{cleared_high, text_most, no_reason}
 use Rattle.network.proofs.ReadBackLaws.{written, written_length, written_read, written_filled, written_answer_lem}
 
@@ -38,7 +37,7 @@ module _ (W size v : ℕ) where
 -- "Size 0 writes `0/0`."
 pub size_zero : (v : ℕ) → v < 2 ^ 32 → network_text v 0 ≡ 48 ∷ 47 ∷ 48 ∷ []
 unfolding network_text numeral
-size_zero v h = let none : cleared 32 0 v ≡ 0 = omega arith in rw none
+size_zero v h = let gone : cleared 32 0 v ≡ 0 = omega arith in rw gone
 
 -- The text has at most four octets, a slash and two digits.
 pub at_most_18 : (v size : ℕ) → size ≤ 32 → length (network_text v size) ≤ 18
@@ -48,7 +47,7 @@ at_most_18 = text_most
 
 -- "Reading this gives the same size, and bytes which, filled with zeros to four, are the cleared address."
 pub read_back : (v size : ℕ) → size ≤ 32
-    → (n : Network) × (network_of (network_text v size) ≡ some n) × (n.size ≡ size) × (zero_filled 4 n.bytes ≡ digits_of 256 4 (cleared 32 size v))
+    → (n : Network) × (network_of (network_text v size) ≡ Some n) × (n.size ≡ size) × (zero_filled 4 n.bytes ≡ digits_of 256 4 (cleared 32 size v))
 read_back v size h = (written v size, written_read v size h, refl, written_filled v size h)
 
 -- "The answer is the size and the number of bytes written": as many as the text has octets, and what stood behind them stays.
@@ -83,12 +82,5 @@ written_read_back a size old n e buf room =
     )
 
 -- A promise about the paper's answer fixes the code's answer.
-pub one_network_reading : (r s : NetworkReading) → network_reading_answer r ≡ network_reading_answer s → r ≡ s
-one_network_reading r s = one_answer value Refused (0, 0) network_reading_answer (λ p. refl) (λ e. refl) r s (cases r) (cases s)
-  where
-    value : ℕ × ℕ → NetworkReading
-    value p = Read p.0 p.1
-
-    cases : (x : NetworkReading) → Cases value Refused x
-    cases (Read m n) = given (m, n)
-    cases (Refused e) = not_given e
+pub one_network_reading : (r s : Result (ℕ × ℕ) Refusal) → network_reading_answer r ≡ network_reading_answer s → r ≡ s
+one_network_reading = one_answer (0, 0)

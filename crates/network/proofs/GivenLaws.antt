@@ -1,8 +1,8 @@
 -- The bytes that a text gives before the slash, and the number that they write with zeros behind them. Assumes nothing.
+use Rattle.std.specs.Prelude.{Option, Some, None}
 use mathlib.Core.Path.{◌≡◌, refl, sym, ap, ap₂, subst, ◌∙◌}
 use mathlib.Core.Bool.{Bool, true, false, cond, ◌&&◌, ◌||◌, and-eq-true_iff}
 use mathlib.Core.List.{List, [], ◌∷◌, ◌++◌, map}
-use mathlib.Core.Option.{Option, some, none}
 use Prim.Native.Nat.{ℕ, zero, suc, ◌+◌, ◌-◌, ◌*◌, ◌/◌, ◌%◌, ◌^◌, ◌≤◌, ◌<◌}
 use native.Mathlib.Nat.{add-zero, pow-le-pow_right}
 use native.Mathlib.Decide.{dec_le}
@@ -15,27 +15,24 @@ use lib.Seq.{length-take-le}
 use Rattle.notation.specs.BigEndian.{AllBelow, number_from, number_of}
 use Rattle.notation.specs.Pieces.{index_of}
 use Rattle.notation.specs.Ascii.{within}
-use Rattle.notation.proofs.OptionLaws.{impossible}
+use Rattle.notation.proofs.OptionLaws.{impossible, same_value}
 use Rattle.notation.proofs.DigitLaws.{number_append, number_lt, bits_power, zeros_number}
 use Rattle.notation.proofs.PieceLaws.{index_le}
-use Rattle.digits.specs.declared.read.Leading.TheVariants.{Number, Nothing}
 use Rattle.digits.specs.Numerals.{digit_of, all_digits, text_number, bounded_number, hex_marked, leading}
 use Rattle.digits.proofs.NumeralLaws.{Digits, read_number, read_digits, number_bound, digit_values}
 use Rattle.digits.proofs.FirstPieceLaws.{ReadsDigits, at_most_says, bounded_reads, piece_nothing, piece_last, piece_more, piece_other}
-use Rattle.ipv4_text.specs.declared.Parts.TheVariants.{Numbers, NotParts}
 use Rattle.ipv4_text.specs.Dotted.{parts_of, as_parts}
 use Rattle.ipv4_text.proofs.DottedLaws.{Octets, numbers_says, not_parts_says, parts_are}
-use Rattle.network.specs.declared.given.Given.TheVariants.{Bytes, NotGiven}
 use Rattle.network.specs.GivenBytes.{half_bytes, hex_bytes, given_of, zero_filled, before_slash, as_given}
 
 -- what an answer says of the definition
-pub bytes_says : (o : Option (List ℕ)) (at v n k : ℕ) → Bytes v n k ≡ as_given o at → (bs : List ℕ) × (o ≡ some bs) × (v ≡ number_of 256 (zero_filled 4 bs)) × (n ≡ length bs) × (k ≡ at)
-bytes_says none at v n k e = let z : ◌≡◌ {A = ℕ} 0 1 = cc in absurd (omega arith)
-bytes_says (some bs) at v n k e = (bs, refl, cc, cc, cc)
+pub bytes_says : (o : Option (List ℕ)) (at v n k : ℕ) → Some (v, n, k) ≡ as_given o at → (bs : List ℕ) × (o ≡ Some bs) × (v ≡ number_of 256 (zero_filled 4 bs)) × (n ≡ length bs) × (k ≡ at)
+bytes_says None at v n k e = impossible (sym e)
+bytes_says (Some bs) at v n k e = let p = same_value e in (bs, refl, ap (λ (q : ℕ × ℕ × ℕ). q.0) p, ap (λ (q : ℕ × ℕ × ℕ). q.1) p, ap (λ (q : ℕ × ℕ × ℕ). q.2) p)
 
-pub not_given_says : (o : Option (List ℕ)) (at : ℕ) → NotGiven ≡ as_given o at → o ≡ none
-not_given_says none at e = refl
-not_given_says (some bs) at e = let z : ◌≡◌ {A = ℕ} 0 1 = cc in absurd (omega arith)
+pub not_given_says : (o : Option (List ℕ)) (at : ℕ) → None ≡ as_given o at → o ≡ None
+not_given_says None at e = refl
+not_given_says (Some bs) at e = impossible e
 
 -- ---- digits with zeros behind them, as a shift
 
@@ -110,19 +107,19 @@ module _ (t : List ℕ) where
       let range = (and-eq-true_iff (leb 1 (length t)) (leb (length t) 8)).0 both.0 in
       (record { all = both.1; any = leb-true 1 (length t) range.0 }, leb-true (length t) 8 range.1)
 
-  hex_else : (Digits 16 t → length t ≤ 8 → ⊥) → hex_bytes t ≡ none
+  hex_else : (Digits 16 t → length t ≤ 8 → ⊥) → hex_bytes t ≡ None
   unfolding hex_bytes
   hex_else n = go hex_test refl
     where
-      go : (b : Bool) → hex_test ≡ b → cond b (some (half_bytes (map digit_of t))) none ≡ none
+      go : (b : Bool) → hex_test ≡ b → cond b (Some (half_bytes (map digit_of t))) None ≡ None
       go true e = let d = hex_tested e in absurd (n d.0 d.1)
       go false e = refl
 
-  hex_given : (bs : List ℕ) → hex_bytes t ≡ some bs → Octets bs
+  hex_given : (bs : List ℕ) → hex_bytes t ≡ Some bs → Octets bs
   unfolding hex_bytes
   hex_given bs = go hex_test refl
     where
-      go : (b : Bool) → hex_test ≡ b → cond b (some (half_bytes (map digit_of t))) none ≡ some bs → Octets bs
+      go : (b : Bool) → hex_test ≡ b → cond b (Some (half_bytes (map digit_of t))) None ≡ Some bs → Octets bs
       go true e k =
           let d = hex_tested e in
           let long = halves_length (map digit_of t) in
@@ -136,7 +133,7 @@ module _ (t : List ℕ) where
       go false e k = impossible k
 
   -- eight digits write no more than 32 bits
-  hex_none : bounded_number 16 4294967295 t ≡ none → hex_bytes t ≡ none
+  hex_none : bounded_number 16 4294967295 t ≡ None → hex_bytes t ≡ None
   hex_none e = hex_else clash
     where
       clash : Digits 16 t → length t ≤ 8 → ⊥
@@ -144,11 +141,11 @@ module _ (t : List ℕ) where
           let n = number_of 16 (map digit_of t) in
           let r = read_number 16 t d in
           let most : 16 ^ length t ≤ 16 ^ 8 = pow-le-pow_right (omega arith) h in
-          let read : bounded_number 16 4294967295 t ≡ some n = rw (r, le-leb n 4294967295 (omega (arith, number_bound 16 t n r))) in
+          let read : bounded_number 16 4294967295 t ≡ Some n = rw (r, le-leb n 4294967295 (omega (arith, number_bound 16 t n r))) in
           let z : ◌≡◌ {A = ℕ} 0 1 = cc in
           omega arith
 
-  hex_some : (v at : ℕ) → text_number 16 t ≡ some v → length t ≤ 8 → Bytes (v * 2 ^ (32 - 4 * length t) % 2 ^ 32) ((length t + 1) / 2) at ≡ as_given (hex_bytes t) at
+  hex_some : (v at : ℕ) → text_number 16 t ≡ Some v → length t ≤ 8 → Some (v * 2 ^ (32 - 4 * length t) % 2 ^ 32, (length t + 1) / 2, at) ≡ as_given (hex_bytes t) at
   unfolding hex_bytes
   hex_some v at e h =
       let d = read_digits 16 t v e in
@@ -171,11 +168,11 @@ module _ (t : List ℕ) where
   unfolding digit_of
   slash_none = lit≤ tt
 
-  pub hex_nothing : Nothing ≡ leading 16 hex_number t → NotGiven ≡ as_given (hex_bytes (before_slash t)) (index_of 47 t)
+  pub hex_nothing : None ≡ leading 16 hex_number t → None ≡ as_given (hex_bytes (before_slash t)) (index_of 47 t)
   hex_nothing h = sym (ap (λ o. as_given o (index_of 47 t)) (hex_none (before_slash t) (piece_nothing 16 47 slash_none hex_number hex_reads t h)))
 
-  module _ (v n : ℕ) (h : Number v n ≡ leading 16 hex_number t) where
-    pub hex_short : (leb (length t) n || eqb (get_or t n 0) 47) ≡ false → NotGiven ≡ as_given (hex_bytes (before_slash t)) (index_of 47 t)
+  module _ (v n : ℕ) (h : Some (v, n) ≡ leading 16 hex_number t) where
+    pub hex_short : (leb (length t) n || eqb (get_or t n 0) 47) ≡ false → None ≡ as_given (hex_bytes (before_slash t)) (index_of 47 t)
     hex_short e = elim (dec_le (length t) n) [
       | yes l ↦ let no : true ≡ false = rw (le-leb (length t) n l) at e in let z : ◌≡◌ {A = ℕ} 0 1 = cc in absurd (omega arith)
       | no l ↦
@@ -185,13 +182,13 @@ module _ (t : List ℕ) where
 
     -- all that is before the slash are digits
     module _ (e : (leb (length t) n || eqb (get_or t n 0) 47) ≡ true) where
-      piece : (hex_number (before_slash t) ≡ some v) × (index_of 47 t ≡ n)
+      piece : (hex_number (before_slash t) ≡ Some v) × (index_of 47 t ≡ n)
       piece = elim (dec_le (length t) n) [
         | yes l ↦ piece_last 16 47 slash_none hex_number hex_reads t v n h l
         | no l ↦ piece_more 16 47 slash_none hex_number hex_reads t v n h (omega arith) (eqb-true (get_or t n 0) 47 (rw (lt-leb (length t) n (omega arith)) at e))
       ]
 
-      whole : text_number 16 (before_slash t) ≡ some v
+      whole : text_number 16 (before_slash t) ≡ Some v
       whole = (at_most_says 4294967295 v (text_number 16 (before_slash t)) piece.0).0
 
       long : length (before_slash t) ≡ n
@@ -200,36 +197,36 @@ module _ (t : List ℕ) where
       pub hex_any : 1 ≤ n
       hex_any = omega (arith, long, (read_digits 16 (before_slash t) v whole).any)
 
-      pub hex_long : 8 < n → NotGiven ≡ as_given (hex_bytes (before_slash t)) (index_of 47 t)
+      pub hex_long : 8 < n → None ≡ as_given (hex_bytes (before_slash t)) (index_of 47 t)
       hex_long k = sym (ap (λ o. as_given o (index_of 47 t)) (hex_else (before_slash t) (λ d m. omega (arith, long))))
 
-      pub hex_number_lem : n ≤ 8 → Bytes (v * 2 ^ (32 - 4 * n) % 2 ^ 32) ((n + 1) / 2) n ≡ as_given (hex_bytes (before_slash t)) (index_of 47 t)
+      pub hex_number_lem : n ≤ 8 → Some (v * 2 ^ (32 - 4 * n) % 2 ^ 32, (n + 1) / 2, n) ≡ as_given (hex_bytes (before_slash t)) (index_of 47 t)
       hex_number_lem k =
-          ap₂ (λ (m i : ℕ). Bytes (v * 2 ^ (32 - 4 * m) % 2 ^ 32) ((m + 1) / 2) i) (sym long) (sym piece.1)
+          ap₂ (λ (m i : ℕ). Some (v * 2 ^ (32 - 4 * m) % 2 ^ 32, (m + 1) / 2, i)) (sym long) (sym piece.1)
           ∙ hex_some (before_slash t) v (index_of 47 t) whole (omega (arith, long))
 
 -- ---- decimal parts
 
 module _ (t : List ℕ) (at : ℕ) where
-  pub parts_nothing : NotParts ≡ as_parts (parts_of t) → NotGiven ≡ as_given (parts_of t) at
+  pub parts_nothing : None ≡ as_parts (parts_of t) → None ≡ as_given (parts_of t) at
   parts_nothing h = sym (ap (λ o. as_given o at) (not_parts_says (parts_of t) h))
 
-  parts_some : (xs : List ℕ) → parts_of t ≡ some xs → Bytes (number_of 256 xs * 2 ^ (32 - 8 * length xs) % 2 ^ 32) (length xs) at ≡ as_given (parts_of t) at
+  parts_some : (xs : List ℕ) → parts_of t ≡ Some xs → Some (number_of 256 xs * 2 ^ (32 - 8 * length xs) % 2 ^ 32, length xs, at) ≡ as_given (parts_of t) at
   unfolding zero_filled
   parts_some xs e =
       let o = (parts_are t xs e).octets in
       let most = o.most in
-      rw e (ap (λ (v : ℕ). Bytes v (length xs) at) (shifted 8 32 (32 - 8 * length xs) (4 - length xs) xs o.small (omega arith) (omega arith)))
+      rw e (ap (λ (v : ℕ). Some (v, length xs, at)) (shifted 8 32 (32 - 8 * length xs) (4 - length xs) xs o.small (omega arith) (omega arith)))
 
-  module _ (v n : ℕ) (h : Numbers v n ≡ as_parts (parts_of t)) where
+  module _ (v n : ℕ) (h : Some (v, n) ≡ as_parts (parts_of t)) where
     pub parts_count : (1 ≤ n) × (n ≤ 4)
     parts_count =
         let s = numbers_says (parts_of t) v n h in
         let o = (parts_are t s.0 s.1).octets in
         (omega (arith, s.3, o.any), omega (arith, s.3, o.most))
 
-    pub parts_number : Bytes (v * 2 ^ (32 - 8 * n) % 2 ^ 32) n at ≡ as_given (parts_of t) at
-    parts_number = let s = numbers_says (parts_of t) v n h in ap₂ (λ (x k : ℕ). Bytes (x * 2 ^ (32 - 8 * k) % 2 ^ 32) k at) s.2 s.3 ∙ parts_some s.0 s.1
+    pub parts_number : Some (v * 2 ^ (32 - 8 * n) % 2 ^ 32, n, at) ≡ as_given (parts_of t) at
+    parts_number = let s = numbers_says (parts_of t) v n h in ap₂ (λ (x k : ℕ). Some (x * 2 ^ (32 - 8 * k) % 2 ^ 32, k, at)) s.2 s.3 ∙ parts_some s.0 s.1
 
 -- ---- either of them
 
@@ -268,11 +265,11 @@ module _ (t : List ℕ) where
     unfolding given_of
     given_hex = rw (marked_before t, m) (ap hex_bytes (marked_slash t m).1)
 
-    pub hex_not_given : NotGiven ≡ as_given (hex_bytes (before_slash (drop 2 t))) (index_of 47 (drop 2 t)) → NotGiven ≡ as_given (given_of (before_slash t)) (index_of 47 t)
+    pub hex_not_given : None ≡ as_given (hex_bytes (before_slash (drop 2 t))) (index_of 47 (drop 2 t)) → None ≡ as_given (given_of (before_slash t)) (index_of 47 t)
     hex_not_given h = sym (ap (λ o. as_given o (index_of 47 t)) (given_hex ∙ not_given_says (hex_bytes (before_slash (drop 2 t))) (index_of 47 (drop 2 t)) h))
 
-    module _ (v n k : ℕ) (h : Bytes v n k ≡ as_given (hex_bytes (before_slash (drop 2 t))) (index_of 47 (drop 2 t))) where
-      says : (bs : List ℕ) × (hex_bytes (before_slash (drop 2 t)) ≡ some bs) × (v ≡ number_of 256 (zero_filled 4 bs)) × (n ≡ length bs) × (k ≡ index_of 47 (drop 2 t))
+    module _ (v n k : ℕ) (h : Some (v, n, k) ≡ as_given (hex_bytes (before_slash (drop 2 t))) (index_of 47 (drop 2 t))) where
+      says : (bs : List ℕ) × (hex_bytes (before_slash (drop 2 t)) ≡ Some bs) × (v ≡ number_of 256 (zero_filled 4 bs)) × (n ≡ length bs) × (k ≡ index_of 47 (drop 2 t))
       says = bytes_says (hex_bytes (before_slash (drop 2 t))) (index_of 47 (drop 2 t)) v n k h
 
       slash : k + 2 ≡ index_of 47 t
@@ -281,17 +278,17 @@ module _ (t : List ℕ) where
       pub slash_within : k + 2 ≤ length t
       slash_within = omega (arith, slash, index_le 47 t)
 
-      pub hex_is_given : Bytes v n (k + 2) ≡ as_given (given_of (before_slash t)) (index_of 47 t)
-      hex_is_given = (λ i. Bytes (says.2 i) (says.3 i) (slash i)) ∙ sym (ap (λ o. as_given o (index_of 47 t)) (given_hex ∙ says.1))
+      pub hex_is_given : Some (v, n, k + 2) ≡ as_given (given_of (before_slash t)) (index_of 47 t)
+      hex_is_given = (λ i. Some (says.2 i, says.3 i, slash i)) ∙ sym (ap (λ o. as_given o (index_of 47 t)) (given_hex ∙ says.1))
 
   pub given_parts : hex_marked t ≡ false → given_of (before_slash t) ≡ parts_of (before_slash t)
   unfolding given_of
   given_parts h = rw (marked_before t, h)
 
-pub given_octets : (t bs : List ℕ) → given_of t ≡ some bs → Octets bs
+pub given_octets : (t bs : List ℕ) → given_of t ≡ Some bs → Octets bs
 unfolding given_of
 given_octets t bs = go (hex_marked t)
   where
-    go : (b : Bool) → cond b (hex_bytes (drop 2 t)) (parts_of t) ≡ some bs → Octets bs
+    go : (b : Bool) → cond b (hex_bytes (drop 2 t)) (parts_of t) ≡ Some bs → Octets bs
     go true e = hex_given (drop 2 t) bs e
     go false e = (parts_are t bs e).octets

@@ -1,11 +1,11 @@
 -- Zeros behind the bytes given, and what the reader of networks answers. Assumes nothing.
+use Rattle.std.specs.Prelude.{Option, Some, None, option_map}
 use mathlib.Core.Path.{◌≡◌, refl, sym, ap, ap₂, ◌∙◌}
 use mathlib.Core.Bool.{Bool, true, false, cond, ◌&&◌}
 use mathlib.Core.List.{List, [], ◌∷◌, ◌++◌, append-nil}
-use mathlib.Core.Option.{Option, some, none, map}
 use Prim.Native.Nat.{ℕ, zero, suc, ◌+◌, ◌-◌, ◌*◌, ◌/◌, ◌^◌, ◌≤◌, ◌<◌, max}
 use native.Mathlib.Numerals.{add-one}
-use native.Mathlib.Decide.{dec_le}
+use native.Mathlib.Decide.{dec_le, dec_lt}
 use native.Mathlib.Omega.{arith}
 use borrow.Author.Tests.{lt-ltb, le-ltb, eq-eqb, ne_eqb}
 use lib.Dec.{leb, ltb, eqb, lit<}
@@ -16,19 +16,14 @@ use Rattle.notation.specs.Pieces.{index_of}
 use Rattle.notation.proofs.DigitLaws.{digits_length, number_cons, number_lt, number_digits, below_append, zeros_below}
 use Rattle.notation.proofs.PieceLaws.{index_contains, index_lacks}
 use Rattle.notation.proofs.SliceLaws.{tail, to_end}
-use Rattle.address.specs.declared.Address.TheVariants.{V4}
 use Rattle.address.specs.declared.Refusal.{Refusal}
 use Rattle.address.specs.declared.Refusal.TheVariants.{TextTooLong, Malformed, LengthTooLarge}
 use Rattle.address.specs.Answers.{Answer, refusal_number, answer, gives, refuses, write_refusal, write_answer, write_leaves}
 use Rattle.address.proofs.AnswerLaws.{write_fits}
 use Rattle.address.proofs.Claims.{number_above_0}
-use Rattle.octets.specs.Octets.{octets}
-use Rattle.octets.proofs.OctetLaws.{octets_4, octets_length}
-use Rattle.digits.specs.declared.read.Leading.TheVariants.{Number, Nothing}
 use Rattle.digits.specs.Numerals.{part_of, as_leading}
 use Rattle.digits.proofs.FirstPieceLaws.{as_number, as_nothing}
 use Rattle.ipv4_text.proofs.DottedLaws.{Octets}
-use Rattle.network.specs.declared.given.Given.TheVariants.{Bytes, NotGiven}
 use Rattle.network.specs.GivenBytes.{given_of, zero_filled, before_slash, as_given}
 use Rattle.network.specs.NetworkText.{size_bytes}
 use Rattle.network.specs.Network.{Network, class_size, widened, inferred_size, completed, sized, network_of, network_answer, network_leaves}
@@ -101,24 +96,24 @@ inferred_most n b k size h e f = rw f (go (leb 8 k && ltb k (8 * n)))
 
 -- ---- what a text means
 
-sized_none : (o : Option ℕ) → sized o none ≡ none
-sized_none none = refl
-sized_none (some n) = refl
+sized_none : (o : Option ℕ) → sized o None ≡ None
+sized_none None = refl
+sized_none (Some n) = refl
 
 module _ (t : List ℕ) (s : ℕ) (at : s ≡ index_of 47 t) where
   network_slash : s < length t → network_of t ≡ sized (part_of 999 (tail (s + 1) t)) (given_of (before_slash t))
   unfolding network_of
   network_slash l = rw (to_end (s + 1) t, add-one s, at, index_contains 47 t (omega arith))
 
-  network_whole : length t ≤ s → network_of t ≡ sized (map inferred_size (given_of (before_slash t))) (given_of (before_slash t))
+  network_whole : length t ≤ s → network_of t ≡ sized (option_map inferred_size (given_of (before_slash t))) (given_of (before_slash t))
   unfolding network_of
   network_whole l = rw (take_all (index_of 47 t) t (omega arith), index_lacks 47 t (omega arith))
 
-  network_no_size : (k : ℕ) → s < length t → Nothing ≡ as_leading (part_of 999 (tail (s + 1) t)) k → network_of t ≡ none
+  network_no_size : (k : ℕ) → s < length t → None ≡ as_leading (part_of 999 (tail (s + 1) t)) k → network_of t ≡ None
   network_no_size k l h = network_slash l ∙ rw (as_nothing (part_of 999 (tail (s + 1) t)) k h)
 
-  module _ (v n : ℕ) (h : Bytes v n s ≡ as_given (given_of (before_slash t)) (index_of 47 t)) where
-    says : (bs : List ℕ) × (given_of (before_slash t) ≡ some bs) × (v ≡ number_of 256 (zero_filled 4 bs)) × (n ≡ length bs) × (s ≡ index_of 47 t)
+  module _ (v n : ℕ) (h : Some (v, n, s) ≡ as_given (given_of (before_slash t)) (index_of 47 t)) where
+    says : (bs : List ℕ) × (given_of (before_slash t) ≡ Some bs) × (v ≡ number_of 256 (zero_filled 4 bs)) × (n ≡ length bs) × (s ≡ index_of 47 t)
     says = bytes_says (given_of (before_slash t)) (index_of 47 t) v n s h
 
     -- the bytes given
@@ -133,14 +128,14 @@ module _ (t : List ℕ) (s : ℕ) (at : s ≡ index_of 47 t) where
     unfolding given
     given_count = omega (arith, are_bytes.most, says.3)
 
-    network_inferred : (k size : ℕ) → k ≡ class_size (v / 16777216) → size ≡ widened n k → length t ≤ s → network_of t ≡ some (completed size given)
+    network_inferred : (k size : ℕ) → k ≡ class_size (v / 16777216) → size ≡ widened n k → length t ≤ s → network_of t ≡ Some (completed size given)
     unfolding given inferred_size
     network_inferred k size e f l =
         let first : v / 16777216 ≡ get_or given 0 0 = ap (λ (x : ℕ). x / 16777216) says.2 ∙ first_octet given are_bytes in
         let same : size ≡ inferred_size given = f ∙ ap₂ widened says.3 (e ∙ ap class_size first) in
-        network_whole l ∙ ap (λ o. sized (map inferred_size o) o) says.1 ∙ ap (λ (k : ℕ). some (completed k given)) (sym same)
+        network_whole l ∙ ap (λ o. sized (option_map inferred_size o) o) says.1 ∙ ap (λ (k : ℕ). Some (completed k given)) (sym same)
 
-    network_sized : (size k m : ℕ) → s < length t → Number size k ≡ as_leading (part_of 999 (tail (s + 1) t)) m → network_of t ≡ some (completed size given)
+    network_sized : (size k m : ℕ) → s < length t → Some (size, k) ≡ as_leading (part_of 999 (tail (s + 1) t)) m → network_of t ≡ Some (completed size given)
     unfolding given
     network_sized size k m l e = network_slash l ∙ ap₂ sized (as_number (part_of 999 (tail (s + 1) t)) size k m e).0 says.1
 
@@ -155,7 +150,7 @@ module _ (t : List ℕ) (s : ℕ) (at : s ≡ index_of 47 t) where
     unfolding given completed
     network_length size = filled_length (max (length given) (size_bytes size)) given (omega arith) ∙ ap (λ j. max j (size_bytes size)) (sym says.3)
 
-network_not_given : (t : List ℕ) → NotGiven ≡ as_given (given_of (before_slash t)) (index_of 47 t) → network_of t ≡ none
+network_not_given : (t : List ℕ) → None ≡ as_given (given_of (before_slash t)) (index_of 47 t) → network_of t ≡ None
 network_not_given t h =
     let e = not_given_says (given_of (before_slash t)) (index_of 47 t) h in
     elim (dec_le (length t) (index_of 47 t)) [
@@ -171,11 +166,11 @@ module _ (t old : List ℕ) where
   answer_long h = let e = lt-ltb 64 (length t) h in (rw e, rw e)
 
   module _ (short : length t ≤ 64) where
-    answer_malformed : network_of t ≡ none → (refuses (0, 0) Malformed ≡ network_answer t old) × (old ≡ network_leaves t old)
+    answer_malformed : network_of t ≡ None → (refuses (0, 0) Malformed ≡ network_answer t old) × (old ≡ network_leaves t old)
     unfolding network_answer network_leaves
     answer_malformed h = let e = le-ltb 64 (length t) short in (rw (e, h), rw (e, h))
 
-    module _ (n : Network) (h : network_of t ≡ some n) where
+    module _ (n : Network) (h : network_of t ≡ Some n) where
       answer_large : 32 < n.size → (refuses (0, 0) LengthTooLarge ≡ network_answer t old) × (old ≡ network_leaves t old)
       unfolding network_answer network_leaves
       answer_large l =
@@ -191,26 +186,26 @@ module _ (t old : List ℕ) where
           let f = le-ltb 32 n.size l in
           (rw (h, e, f), rw (h, e, f))
 
-pub none_given : (t old : List ℕ) → length t ≤ 64 → NotGiven ≡ as_given (given_of (before_slash t)) (index_of 47 t) → (refuses (0, 0) Malformed ≡ network_answer t old) × (old ≡ network_leaves t old)
+pub none_given : (t old : List ℕ) → length t ≤ 64 → None ≡ as_given (given_of (before_slash t)) (index_of 47 t) → (refuses (0, 0) Malformed ≡ network_answer t old) × (old ≡ network_leaves t old)
 none_given t old short h = answer_malformed t old short (network_not_given t h)
 
 -- the place that the reader of the bytes given answers is the slash
-pub slash_at : (t : List ℕ) (v n s : ℕ) → Bytes v n s ≡ as_given (given_of (before_slash t)) (index_of 47 t) → s ≡ index_of 47 t
+pub slash_at : (t : List ℕ) (v n s : ℕ) → Some (v, n, s) ≡ as_given (given_of (before_slash t)) (index_of 47 t) → s ≡ index_of 47 t
 slash_at t v n s h = (bytes_says (given_of (before_slash t)) (index_of 47 t) v n s h).4
 
 -- what the reader has found: the slash, a text that is not too long, and the bytes given
 module _ (t : List ℕ) (s : ℕ) (at : s ≡ index_of 47 t) (old : List ℕ) (short : length t ≤ 64) where
-  pub no_size : (k : ℕ) → s < length t → Nothing ≡ as_leading (part_of 999 (tail (s + 1) t)) k → (refuses (0, 0) Malformed ≡ network_answer t old) × (old ≡ network_leaves t old)
+  pub no_size : (k : ℕ) → s < length t → None ≡ as_leading (part_of 999 (tail (s + 1) t)) k → (refuses (0, 0) Malformed ≡ network_answer t old) × (old ≡ network_leaves t old)
   no_size k l h = answer_malformed t old short (network_no_size t s at k l h)
 
-  module _ (v n : ℕ) (h : Bytes v n s ≡ as_given (given_of (before_slash t)) (index_of 47 t)) where
+  module _ (v n : ℕ) (h : Some (v, n, s) ≡ as_given (given_of (before_slash t)) (index_of 47 t)) where
     -- as `store_network` answers it
     abbrev Stored : ℕ → Answer (ℕ × ℕ) → List ℕ → Type 0
     Stored size r new =
         (r ≡ answer (0, 0) (write_refusal 0 (take (max n (size_bytes size)) (digits_of 256 4 v)) old) (size, max n (size_bytes size)))
         × (new ≡ write_leaves 0 (take (max n (size_bytes size)) (digits_of 256 4 v)) old)
 
-    network_stored : (size : ℕ) → network_of t ≡ some (completed size (given t s at v n h)) → size ≤ 32 → (r : Answer (ℕ × ℕ)) (new : List ℕ) → Stored size r new → (r ≡ network_answer t old) × (new ≡ network_leaves t old)
+    network_stored : (size : ℕ) → network_of t ≡ Some (completed size (given t s at v n h)) → size ≤ 32 → (r : Answer (ℕ × ℕ)) (new : List ℕ) → Stored size r new → (r ≡ network_answer t old) × (new ≡ network_leaves t old)
     unfolding completed
     network_stored size e most r new p =
         let bytes = network_bytes t s at v n h size most in
@@ -221,7 +216,7 @@ module _ (t : List ℕ) (s : ℕ) (at : s ≡ index_of 47 t) (old : List ℕ) (s
     pub inferred_stored : (k size : ℕ) → k ≡ class_size (v / 16777216) → size ≡ widened n k → length t ≤ s → (r : Answer (ℕ × ℕ)) (new : List ℕ) → Stored size r new → (r ≡ network_answer t old) × (new ≡ network_leaves t old)
     inferred_stored k size e f l = network_stored size (network_inferred t s at v n h k size e f l) (inferred_most n (v / 16777216) k size (given_count t s at v n h) e f)
 
-    module _ (size k m : ℕ) (l : s < length t) (e : Number size k ≡ as_leading (part_of 999 (tail (s + 1) t)) m) where
+    module _ (size k m : ℕ) (l : s < length t) (e : Some (size, k) ≡ as_leading (part_of 999 (tail (s + 1) t)) m) where
       pub sized_large : 32 < size → (refuses (0, 0) LengthTooLarge ≡ network_answer t old) × (old ≡ network_leaves t old)
       unfolding completed
       sized_large = answer_large t old short (completed size (given t s at v n h)) (network_sized t s at v n h size k m l e)
@@ -231,11 +226,16 @@ module _ (t : List ℕ) (s : ℕ) (at : s ≡ index_of 47 t) (old : List ℕ) (s
 
 -- ---- what is stored
 
+-- the larger of two numbers, by a test
+pub larger : (m n : ℕ) → max m n ≡ cond (ltb m n) n m
+larger m n = elim (dec_lt m n) [ yes h ↦ rw (lt-ltb m n h) (omega arith) | no h ↦ rw (le-ltb m n (omega arith)) (omega arith) ]
+
 -- four octets fill an array of four
-pub octets_stored : (v : ℕ) (old new : List ℕ) → length old ≡ 4 → new ≡ write_leaves 0 (octets (V4 v)) old → new ≡ digits_of 256 4 v
+pub octets_stored : (v : ℕ) (old new : List ℕ) → length old ≡ 4 → new ≡ write_leaves 0 (digits_of 256 4 v) old → new ≡ digits_of 256 4 v
 octets_stored v old new l e =
-    let fits = write_fits (octets (V4 v)) old 4 (octets_length (V4 v)) (omega arith) (octets (V4 v) ++ drop 4 old) refl in
-    e ∙ sym fits.1 ∙ ap (λ r. octets (V4 v) ++ r) (drop_of_length-le old {i = 4} (omega arith)) ∙ append-nil (octets (V4 v)) ∙ octets_4 v
+    let xs : List ℕ = digits_of 256 4 v in
+    let fits = write_fits xs old 4 (digits_length 256 4 v) (omega arith) (xs ++ drop 4 old) refl in
+    e ∙ sym fits.1 ∙ ap (λ r. xs ++ r) (drop_of_length-le old {i = 4} (omega arith)) ∙ append-nil xs
 
 pub octets_front : (n v : ℕ) → n ≤ 4 → length (take n (digits_of 256 4 v)) ≡ n
 octets_front n v h = length-take-le n (digits_of 256 4 v) (omega (arith, digits_length 256 4 v))

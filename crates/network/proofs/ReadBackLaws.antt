@@ -1,8 +1,8 @@
 -- What the text of a network is read as. Assumes nothing.
+use Rattle.std.specs.Prelude.{Some}
 use mathlib.Core.Path.{◌≡◌, refl, sym, ap, ap₂, ◌∙◌}
 use mathlib.Core.Bool.{false}
 use mathlib.Core.List.{List, ◌∷◌, ◌++◌, map, append-nil}
-use mathlib.Core.Option.{some}
 use Prim.Native.Nat.{ℕ, ◌+◌, ◌-◌, ◌*◌, ◌/◌, ◌^◌, ◌≤◌, max}
 use native.Mathlib.Nat.{mul_assoc, one-le-pow}
 use native.Mathlib.Omega.{arith}
@@ -31,7 +31,7 @@ use Rattle.network.proofs.NetworkLaws.{answer_stored}
 -- ---- a text with a slash
 
 -- what is given before the first slash, and the size behind it
-slash_network : (s t xs : List ℕ) (size : ℕ) → Lacks 47 s → given_of s ≡ some xs → part_of 999 t ≡ some size → network_of (s ++ 47 ∷ t) ≡ some (completed size xs)
+slash_network : (s t xs : List ℕ) (size : ℕ) → Lacks 47 s → given_of s ≡ Some xs → part_of 999 t ≡ Some size → network_of (s ++ 47 ∷ t) ≡ Some (completed size xs)
 unfolding network_of
 slash_network s t xs size l e f = let w = seam 47 s t l in rw (w.0, w.1, w.2, e, f)
 
@@ -42,12 +42,12 @@ octets_lack : (b : ℕ) → digit_of b ≡ 16 → eqb 46 b ≡ false → (xs : L
 octets_lack b = numerals_lack 10 3 46 b (lit≤ tt) (lit< tt) (lit≤ tt)
 
 module _ (xs : List ℕ) (small : AllBelow 256 xs) (any : 1 ≤ length xs) (most : length xs ≤ 4) where
-  octets_given : given_of (separated 46 (map decimal xs)) ≡ some xs
+  octets_given : given_of (separated 46 (map decimal xs)) ≡ Some xs
   unfolding given_of digit_of
   octets_given = rw (not_marked (separated 46 (map decimal xs)) (octets_lack 120 refl refl xs) (octets_lack 88 refl refl xs)) (parts_spelling (map decimal xs) xs (every_decimal xs small) any most)
 
   -- with a slash and a size behind them
-  octets_network : (size : ℕ) → size ≤ 999 → network_of (separated 46 (map decimal xs) ++ 47 ∷ decimal size) ≡ some (completed size xs)
+  octets_network : (size : ℕ) → size ≤ 999 → network_of (separated 46 (map decimal xs) ++ 47 ∷ decimal size) ≡ Some (completed size xs)
   unfolding digit_of
   octets_network size h = slash_network (separated 46 (map decimal xs)) (decimal size) xs size (octets_lack 47 refl refl xs) octets_given (decimal_part 999 size h (omega arith))
 
@@ -92,19 +92,19 @@ module _ (v size : ℕ) where
     pub written_length : length written.bytes ≡ max 1 (size_bytes size)
     written_length = length-take-le (max 1 (size_bytes size)) (digits_of 256 4 (cleared 32 size v)) (omega (arith, digits_length 256 4 (cleared 32 size v)))
 
-    pub written_read : network_of (network_text v size) ≡ some written
+    pub written_read : network_of (network_text v size) ≡ Some written
     unfolding network_text
     written_read =
         let long = written_length in
         octets_network written.bytes (below_take 256 (max 1 (size_bytes size)) (digits_of 256 4 (cleared 32 size v)) (digits_below 256 (lit< tt) 4 (cleared 32 size v))) (omega arith) (omega arith) size (omega arith)
-        ∙ ap some (network_whole size written.bytes (omega arith))
+        ∙ ap Some (network_whole size written.bytes (omega arith))
 
     pub written_filled : zero_filled 4 written.bytes ≡ digits_of 256 4 (cleared 32 size v)
     written_filled = cleared_filled v size (max 1 (size_bytes size)) (omega arith) (omega arith)
 
 -- ---- answers
 
-network_gives : (t old : List ℕ) (n : Network) (k : ℕ) → network_of t ≡ some n → length n.bytes ≡ k → length t ≤ 64 → n.size ≤ 32 → k ≤ length old
+network_gives : (t old : List ℕ) (n : Network) (k : ℕ) → network_of t ≡ Some n → length n.bytes ≡ k → length t ≤ 64 → n.size ≤ 32 → k ≤ length old
     → (network_answer t old ≡ gives (n.size, k)) × (network_leaves t old ≡ n.bytes ++ drop k old)
 unfolding write_leaves
 network_gives t old n k e l short small room =

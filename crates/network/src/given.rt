@@ -4,16 +4,8 @@ ghost use Rattle.notation.specs.Pieces.{index_of};
 ghost use Rattle.ipv4_text.specs.Dotted.{parts_of};
 ghost use Rattle.network.specs.GivenBytes.{hex_bytes, given_of, before_slash, as_given};
 
-use digits::read::{Leading, find, hex_marked, leading_number};
-use ipv4_text::{Parts, read_parts};
-
-// The bytes as the first octets of a number whose other octets are zero, how many they are, and the index of the slash, or the
-// text's length where there is none.
-#[derive(Clone, Copy)]
-pub enum Given {
-    Bytes(u32, usize, usize),
-    NotGiven,
-}
+use digits::read::{find, hex_marked, leading_number};
+use ipv4_text::read_parts;
 
 // Whether a text ends at an index, or has a slash there.
 fn ends_at(text: &[u8], at: usize) -> bool
@@ -26,41 +18,35 @@ fn ends_at(text: &[u8], at: usize) -> bool
 }
 
 // One to eight hex digits, which fill half bytes from the left. They are read before the slash is looked for, which is behind them.
-fn hex_bytes(text: &[u8]) -> Given
+fn hex_bytes(text: &[u8]) -> Option<(u32, usize, usize)>
     ensures { result ≡ as_given (hex_bytes (before_slash text.now)) (index_of 47 text.now) }
 {
-    let Leading::Number(value, digits) = leading_number(text, 16, 4294967295) else {
-        return Given::NotGiven;
-    };
+    let (value, digits) = leading_number(text, 16, 4294967295)?;
     if !ends_at(text, digits) {
-        return Given::NotGiven;
+        return None;
     }
     if 8 < digits {
-        return Given::NotGiven;
+        return None;
     }
-    Given::Bytes(value << (32 - 4 * digits), (digits + 1) / 2, digits)
+    Some((value << (32 - 4 * digits), (digits + 1) / 2, digits))
 }
 
 // One to four decimal parts.
-fn part_bytes(text: &[u8]) -> Given
+fn part_bytes(text: &[u8]) -> Option<(u32, usize, usize)>
     ensures { result ≡ as_given (parts_of (before_slash text.now)) (index_of 47 text.now) }
 {
     let slash = find(text, b'/');
-    let Parts::Numbers(value, count) = read_parts(&text[..slash]) else {
-        return Given::NotGiven;
-    };
-    Given::Bytes(value << (32 - 8 * count), count, slash)
+    let (value, count) = read_parts(&text[..slash])?;
+    Some((value << (32 - 8 * count), count, slash))
 }
 
 // Either of them.
-pub fn read_given(text: &[u8]) -> Given
+pub fn read_given(text: &[u8]) -> Option<(u32, usize, usize)>
     ensures { result ≡ as_given (given_of (before_slash text.now)) (index_of 47 text.now) }
 {
     if !hex_marked(text) {
         return part_bytes(text);
     }
-    let Given::Bytes(value, count, slash) = hex_bytes(&text[2..]) else {
-        return Given::NotGiven;
-    };
-    Given::Bytes(value, count, slash + 2)
+    let (value, count, slash) = hex_bytes(&text[2..])?;
+    Some((value, count, slash + 2))
 }

@@ -10,24 +10,16 @@ ghost use Rattle.output.specs.Placing.{Puts};
 ghost use Rattle.network.specs.NetworkText.{size_bytes, cleared, network_text, write_network_refusal};
 ghost use Rattle.network.specs.Network.{class_size, widened, network_reading_answer, network_answer, network_leaves};
 
-use address::{Address, Refusal, Writing};
+use address::{Address, Refusal};
 use digits::parts::whole_part;
-use digits::read::Leading;
-use given::{Given, read_given};
-use octets::write_octets;
+use given::read_given;
+use octets::put_four;
 use output::{put, put_decimal};
 use store::store;
 
 mod given;
 
 // ---- reading
-
-// What the reader answers: the size in bits, and how many bytes are at the start of the lent buffer.
-#[derive(Clone, Copy)]
-pub enum NetworkReading {
-    Read(u8, usize),
-    Refused(Refusal),
-}
 
 // The size that the first byte tells.
 fn class_size(first: u8) -> u8
@@ -51,48 +43,36 @@ fn widen(count: usize, size: u8) -> u8
     if size < 8 {
         return size;
     }
-    if size < given { given } else { size }
-}
-
-fn larger(a: usize, b: usize) -> usize
-    ensures { result ≡ max a b }
-{
-    if a < b { b } else { a }
+    size.max(given)
 }
 
 // Stores the bytes given, and zeros behind them as far as the size goes.
-fn store_network(value: u32, count: usize, size: u8, out: &mut [u8]) -> NetworkReading
+fn store_network(value: u32, count: usize, size: u8, out: &mut [u8]) -> Result<(u8, usize), Refusal>
     requires { (count ≤ 4) × (size ≤ 32) }
     ensures { (network_reading_answer result ≡ answer (0, 0) (write_refusal 0 (take (max count (size_bytes size)) (digits_of 256 4 value)) out.old) (size, max count (size_bytes size))) × (out.new ≡ write_leaves 0 (take (max count (size_bytes size)) (digits_of 256 4 value)) out.old) }
 {
     let mut octets = [0u8; 4];
-    write_octets(Address::V4(value), &mut octets);
-    let n = larger(count, ((size + 7) / 8) as usize);
-    match store(&octets[..n], out) {
-        Writing::Wrote(written) => NetworkReading::Read(size, written),
-        Writing::Refused(e) => NetworkReading::Refused(e),
-    }
+    put_four(value, &mut octets);
+    let n = count.max(((size + 7) / 8) as usize);
+    let written = store(&octets[..n], out)?;
+    Ok((size, written))
 }
 
 // Reads a network text, and writes its bytes to the start of `out`.
-pub fn read_network(text: &[u8], out: &mut [u8]) -> NetworkReading
+pub fn read_network(text: &[u8], out: &mut [u8]) -> Result<(u8, usize), Refusal>
     ensures { (network_reading_answer result ≡ network_answer text.now out.old) × (out.new ≡ network_leaves text.now out.old) }
 {
     if 64 < text.len() {
-        return NetworkReading::Refused(Refusal::TextTooLong);
+        return Err(Refusal::TextTooLong);
     }
-    let Given::Bytes(value, count, slash) = read_given(text) else {
-        return NetworkReading::Refused(Refusal::Malformed);
-    };
+    let (value, count, slash) = read_given(text).ok_or(Refusal::Malformed)?;
     if text.len() <= slash {
         let size = widen(count, class_size((value / 16777216) as u8));
         return store_network(value, count, size, out);
     }
-    let Leading::Number(size, _) = whole_part(&text[slash + 1..], 999) else {
-        return NetworkReading::Refused(Refusal::Malformed);
-    };
+    let (size, _) = whole_part(&text[slash + 1..], 999).ok_or(Refusal::Malformed)?;
     if 32 < size {
-        return NetworkReading::Refused(Refusal::LengthTooLarge);
+        return Err(Refusal::LengthTooLarge);
     }
     store_network(value, count, size as u8, out)
 }
@@ -134,14 +114,14 @@ fn put_network(text: &mut [u8], v: u32, size: u8) -> usize
 }
 
 // Writes the network text of an IPv4 address and a size to the start of `out`, where there is room for it.
-pub fn write_network(address: Address, size: u8, out: &mut [u8]) -> Writing
+pub fn write_network(address: Address, size: u8, out: &mut [u8]) -> Result<usize, Refusal>
     ensures { (writing_answer result ≡ write_answer (write_network_refusal address size) (network_text (number address) size) out.old) × (out.new ≡ write_leaves (write_network_refusal address size) (network_text (number address) size) out.old) }
 {
     let Address::V4(v) = address else {
-        return Writing::Refused(Refusal::WrongFamily);
+        return Err(Refusal::WrongFamily);
     };
     if 32 < size {
-        return Writing::Refused(Refusal::LengthTooLarge);
+        return Err(Refusal::LengthTooLarge);
     }
     let mut text = [0u8; 24];
     let n = put_network(&mut text, v, size);

@@ -2,14 +2,13 @@
 use mathlib.Core.Path.{◌≡◌, refl, sym, ap, subst}
 use mathlib.Core.Bool.{Bool, true, false, cond}
 use mathlib.Core.List.{List, ◌++◌}
-use Prim.Native.Nat.{ℕ, ◌+◌, ◌≤◌}
+use Prim.Native.Nat.{ℕ, ◌≤◌}
 use native.Mathlib.Omega.{arith}
 use borrow.Author.Tests.{ne_eqb}
 use lib.Dec.{eqb}
 use lib.ListN.{length, drop}
 use lib.Seq.{drop_at}
 use Rattle.address.specs.declared.Address.{Address}
-use Rattle.address.specs.Addresses.{number}
 use Rattle.address.specs.Answers.{Answer, refusal, answer, gives, write_refusal, write_answer, write_leaves}
 use Rattle.address.proofs.AnswerLaws.{write_good}
 use Rattle.address.proofs.Claims.{written_held}

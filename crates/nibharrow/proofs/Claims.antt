@@ -1,9 +1,9 @@
 -- What is claimed of the C interface. Assumes nothing.
+use Rattle.std.specs.Prelude.{Some, None, unwrap_or}
 use mathlib.Core.Path.{◌≡◌, refl, sym, ap, subst, ◌∙◌}
 use mathlib.Core.Logic.{◌↔◌}
 use mathlib.Core.Bool.{Bool, true, false, not}
 use mathlib.Core.List.{List, [], ◌∷◌, ◌++◌, map, Permᴰ}
-use mathlib.Core.Option.{some, none, get_or}
 use Prim.Native.Nat.{ℕ, ◌+◌, ◌*◌, ◌/◌, ◌≤◌, ◌<◌, min, max}
 use native.Mathlib.Omega.{arith}
 use borrow.Author.Tests.{ne_eqb}
@@ -68,7 +68,7 @@ module _ (old : List ℕ) where
 
   pub network_into_lem : (t : List ℕ) → Answered old (network_into t old)
   unfolding network_into network_answer network_leaves write_leaves
-  network_into_lem t = judged (0, 0) (λ r. r.1) old _ _ (get_or (network_of t) no_network).bytes refl
+  network_into_lem t = judged (0, 0) (λ r. r.1) old _ _ (unwrap_or (network_of t) no_network).bytes refl
 
   pub network_written_lem : (bytes : List ℕ) (size : ℕ) → Wrote old (network_written bytes size old)
   unfolding network_written
@@ -201,11 +201,11 @@ address_held x old m good =
 
 -- After a good call the caller holds, of every text that is read as a network, the size and the bytes that the text means;
 pub network_held : (t old : List ℕ) → (network_into t old).answers.number ≡ 0
-    → (n : Network) × (network_of t ≡ some n) × Filled (n.size, length n.bytes) n.bytes old (network_into t old)
+    → (n : Network) × (network_of t ≡ Some n) × Filled (n.size, length n.bytes) n.bytes old (network_into t old)
 unfolding network_into network_leaves
 network_held t old good =
     let (is, answered, wrote) = laws.network_good t old good in
-    (get_or (network_of t) no_network, is, good_filled _ (read_network_refusal t (network_of t)) _ old wrote _ answered)
+    (unwrap_or (network_of t) no_network, is, good_filled _ (read_network_refusal t (network_of t)) _ old wrote _ answered)
 
 -- of every text that is read as a block, the length and the octets of its address;
 pub block_held : (t old : List ℕ) → (block_into t old).answers.number ≡ 0
@@ -434,18 +434,18 @@ module _ (sorted : ℕ) (t old : List ℕ) where
   pub respell_numbers : let k = (respell_into sorted t old).answers.number in
       ((k ≡ 1) ↔ (65536 < length t))
       × ((k ≡ 10) ↔ ((length t ≤ 65536) × (1024 < length (sheet_lines t))))
-      × ((k ≡ 2) ↔ ((length t ≤ 65536) × (length (sheet_lines t) ≤ 1024) × (sheet_of t ≡ none)))
+      × ((k ≡ 2) ↔ ((length t ≤ 65536) × (length (sheet_lines t) ≤ 1024) × (sheet_of t ≡ None)))
   unfolding respell_into
   respell_numbers = (sheets.number_1 asked t old, sheets.number_10 asked t old, sheets.number_2 asked t old)
 
   -- then 3, each exactly.
   pub respell_short : ((respell_into sorted t old).answers.number ≡ 3)
-      ↔ ((length t ≤ 65536) × (length (sheet_lines t) ≤ 1024) × (es : List Entry) × (sheet_of t ≡ some es) × (length old < length (sheet_text (arranged asked es))))
+      ↔ ((length t ≤ 65536) × (length (sheet_lines t) ≤ 1024) × (es : List Entry) × (sheet_of t ≡ Some es) × (length old < length (sheet_text (arranged asked es))))
   unfolding respell_into
   respell_short = sheets.number_3 asked t old
 
   -- Room that always suffices, as the header has it.
-  pub respell_room : length t ≤ 65536 → length (sheet_lines t) ≤ 1024 → (es : List Entry) → sheet_of t ≡ some es → 53248 ≤ length old → (respell_into sorted t old).answers.number ≡ 0
+  pub respell_room : length t ≤ 65536 → length (sheet_lines t) ≤ 1024 → (es : List Entry) → sheet_of t ≡ Some es → 53248 ≤ length old → (respell_into sorted t old).answers.number ≡ 0
   unfolding respell_into
   respell_room short few es is room = sheets.room_for_all asked t es is few short old room
 

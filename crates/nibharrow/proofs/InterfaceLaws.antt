@@ -1,4 +1,5 @@
 -- Outcomes of the C interface, from what the calls below it answer. Assumes nothing.
+use Rattle.std.specs.Prelude.{Ok, Err, Result}
 use mathlib.Core.Path.{◌≡◌, refl, sym, ap, ◌∙◌}
 use mathlib.Core.Bool.{true, false, cond, not}
 use mathlib.Core.List.{List}
@@ -11,8 +12,6 @@ use Rattle.address.specs.declared.Address.{Address}
 use Rattle.address.specs.declared.Address.TheVariants.{V4, V6}
 use Rattle.address.specs.declared.Block.{Block}
 use Rattle.address.specs.Addresses.{family}
-use Rattle.address.specs.declared.Reading.{Reading}
-use Rattle.address.specs.declared.Reading.TheVariants.{Read, Refused}
 use Rattle.address.specs.declared.Refusal.{Refusal}
 use Rattle.address.specs.declared.Refusal.TheVariants.{LengthTooLarge, WrongFamily}
 use Rattle.address.specs.Answers.{Answer, gives, refuses, refusal_number, no_address, reading_answer, write_answer, write_leaves}
@@ -59,11 +58,11 @@ pub refused_on : {A B : Type 0} (zeros : B) (old : List ℕ) (f : A → Outcome 
 refused_on zeros old f x z e h = sym (when_refused (λ n. outcome (refused_by zeros n) old) f x z e (sym h))
 
 -- what a match tells of a reading, where the reading answers x
-module _ {B : Type 0} (refused : ℕ → B) (f : Address → B) (x : Answer Address) (r : Reading) (h : reading_answer r ≡ x) where
-  pub reading_given : (a : Address) → r ≡ Read a → f a ≡ when_given refused x f
+module _ {B : Type 0} (refused : ℕ → B) (f : Address → B) (x : Answer Address) (r : Result Address Refusal) (h : reading_answer r ≡ x) where
+  pub reading_given : (a : Address) → r ≡ Ok a → f a ≡ when_given refused x f
   reading_given a e = when_given_lem refused f x a (ap reading_answer (sym e) ∙ h)
 
-  pub reading_refused : (e : Refusal) → r ≡ Refused e → refused (refusal_number e) ≡ when_given refused x f
+  pub reading_refused : (e : Refusal) → r ≡ Err e → refused (refusal_number e) ≡ when_given refused x f
   reading_refused e k = when_refused refused f x no_address e (ap reading_answer (sym k) ∙ h)
 
 -- equal answers of a reader go the same way

@@ -1,9 +1,9 @@
 -- What the calls of the C interface leave in the caller's buffers, from what the calls below them answer. Assumes nothing.
+use Rattle.std.specs.Prelude.{Option, Some, None, unwrap_or}
 use mathlib.Core.Path.{◌≡◌, refl, sym, ap, ap₂, subst, ◌∙◌}
 use mathlib.Core.Logic.{◌↔◌}
 use mathlib.Core.Bool.{Bool, true, false, cond}
 use mathlib.Core.List.{List, [], ◌∷◌}
-use mathlib.Core.Option.{Option, some, none, get_or}
 use Prim.Native.Nat.{ℕ, ◌+◌, ◌*◌, ◌≤◌, ◌<◌}
 use native.Mathlib.Decide.{ℕ_discrete}
 use native.Mathlib.Omega.{arith}
@@ -72,7 +72,7 @@ good_writes refused bytes old e = sym (answer_gives 0 (length bytes) _ e)
 -- ---- networks
 
 -- a text without a meaning is refused
-none_refused : (t : List ℕ) → ¬ (read_network_refusal t none ≡ 0)
+none_refused : (t : List ℕ) → ¬ (read_network_refusal t None ≡ 0)
 unfolding read_network_refusal
 none_refused t = go (ltb 64 (length t))
   where
@@ -80,14 +80,14 @@ none_refused t = go (ltb 64 (length t))
     go true e = omega (arith, e)
     go false e = omega (arith, e)
 
-network_some : (t old : List ℕ) (o : Option Network) → let n = get_or o no_network in write_refusal (read_network_refusal t o) n.bytes old ≡ 0 → o ≡ some n
-network_some t old none e = absurd (none_refused t ((no_refusal [] old (read_network_refusal t none)).0 e).0)
-network_some t old (some n) e = refl
+network_some : (t old : List ℕ) (o : Option Network) → let n = unwrap_or o no_network in write_refusal (read_network_refusal t o) n.bytes old ≡ 0 → o ≡ Some n
+network_some t old None e = absurd (none_refused t ((no_refusal [] old (read_network_refusal t None)).0 e).0)
+network_some t old (Some n) e = refl
 
 -- and a good answer is the size and the bytes of its meaning
 pub network_good : (t old : List ℕ) → (network_answer t old).number ≡ 0
-    → let n = get_or (network_of t) no_network in
-    (network_of t ≡ some n) × (network_answer t old ≡ gives (n.size, length n.bytes)) × ((write_answer (read_network_refusal t (network_of t)) n.bytes old).number ≡ 0)
+    → let n = unwrap_or (network_of t) no_network in
+    (network_of t ≡ Some n) × (network_answer t old ≡ gives (n.size, length n.bytes)) × ((write_answer (read_network_refusal t (network_of t)) n.bytes old).number ≡ 0)
 unfolding network_answer write_answer
 network_good t old e = (network_some t old (network_of t) e, sym (answer_gives (0, 0) _ _ e), e)
 

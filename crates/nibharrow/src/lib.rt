@@ -9,31 +9,29 @@ ghost use Rattle.classes.specs.Classes.{join_answer};
 ghost use Rattle.c_answers.specs.CAnswers.{written_answer, network_read_answer, network_host_answer, block_read_answer, blocks_written_answer};
 ghost use Rattle.nibharrow.specs.Interface.{outcome, address_into, address_written, network_into, network_written, octets_split, block_into, block_written, range_to, range_into, gather_into, uncovered_into, respell_into, words_into};
 
-use address::{Address, Block, BlockReading, Reading, Writing};
+use address::{Address, Block, Refusal};
 use blocks::{read_block, write_block};
 use c_answers::{
-    BlockRead, BlocksWritten, NetworkHost, NetworkRead, Written, as_block_read, as_blocks_written,
-    as_byte, as_network_host, as_network_read, as_written, refused,
+    BlockRead, BlocksWritten, NetworkHost, NetworkRead, Written, as_block_read, as_byte,
 };
-use classes::{Splitting, join, split};
+use classes::{join, split};
 use gather::{gather, uncovered};
 use loose::read_loose;
 use network::{read_network, write_network};
 use normal::write_address;
 use octets::{read_octets, write_octets};
 use ranges::range_blocks;
-use records::BlocksWriting;
 use sheet::respell;
 use text::read_address;
 use words::write_words;
 
 // Puts the address that a reader answered at the start of `out`.
-fn put_reading(reading: Reading, out: &mut [u8]) -> Written
+fn put_reading(reading: Result<Address, Refusal>, out: &mut [u8]) -> Written
     ensures { outcome (written_answer result) out.new ≡ address_into (reading_answer reading) out.old }
 {
     match reading {
-        Reading::Read(a) => as_written(write_octets(a, out)),
-        Reading::Refused(e) => refused(e),
+        Ok(a) => Written::from(write_octets(a, out)),
+        Err(e) => Written::from(e),
     }
 }
 
@@ -63,8 +61,8 @@ pub extern "C" fn nibharrow_write_address(address: &[u8], out: &mut [u8]) -> Wri
     ensures { outcome (written_answer result) out.new ≡ address_written address.now out.old }
 {
     match read_octets(address) {
-        Reading::Read(a) => as_written(write_address(a, out)),
-        Reading::Refused(e) => refused(e),
+        Ok(a) => Written::from(write_address(a, out)),
+        Err(e) => Written::from(e),
     }
 }
 
@@ -72,7 +70,7 @@ pub extern "C" fn nibharrow_write_address(address: &[u8], out: &mut [u8]) -> Wri
 pub extern "C" fn nibharrow_read_network(text: &[u8], out: &mut [u8]) -> NetworkRead
     ensures { outcome (network_read_answer result) out.new ≡ network_into text.now out.old }
 {
-    as_network_read(read_network(text, out))
+    NetworkRead::from(read_network(text, out))
 }
 
 #[unsafe(no_mangle)]
@@ -80,8 +78,8 @@ pub extern "C" fn nibharrow_write_network(address: &[u8], size: u32, out: &mut [
     ensures { outcome (written_answer result) out.new ≡ network_written address.now size out.old }
 {
     match read_octets(address) {
-        Reading::Read(a) => as_written(write_network(a, as_byte(size), out)),
-        Reading::Refused(e) => refused(e),
+        Ok(a) => Written::from(write_network(a, as_byte(size), out)),
+        Err(e) => Written::from(e),
     }
 }
 
@@ -90,8 +88,8 @@ pub extern "C" fn nibharrow_split(address: &[u8]) -> NetworkHost
     ensures { network_host_answer result ≡ octets_split address.now }
 {
     match read_octets(address) {
-        Reading::Read(a) => as_network_host(split(a)),
-        Reading::Refused(e) => as_network_host(Splitting::Refused(e)),
+        Ok(a) => NetworkHost::from(split(a)),
+        Err(e) => NetworkHost::from(Err(e)),
     }
 }
 
@@ -100,11 +98,11 @@ pub extern "C" fn nibharrow_read_block(text: &[u8], out: &mut [u8]) -> BlockRead
     ensures { outcome (block_read_answer result) out.new ≡ block_into text.now out.old }
 {
     match read_block(text) {
-        BlockReading::Read(block) => {
+        Ok(block) => {
             let address = block.address;
             as_block_read(block.length, write_octets(address, out))
         }
-        BlockReading::Refused(e) => as_block_read(0, Writing::Refused(e)),
+        Err(e) => as_block_read(0, Err(e)),
     }
 }
 
@@ -113,24 +111,24 @@ pub extern "C" fn nibharrow_write_block(address: &[u8], length: u32, out: &mut [
     ensures { outcome (written_answer result) out.new ≡ block_written address.now length out.old }
 {
     match read_octets(address) {
-        Reading::Read(a) => {
+        Ok(a) => {
             let block = Block {
                 address: a,
                 length: as_byte(length),
             };
-            as_written(write_block(block, out))
+            Written::from(write_block(block, out))
         }
-        Reading::Refused(e) => refused(e),
+        Err(e) => Written::from(e),
     }
 }
 
 // Writes the records of the range from an address to the one that a reader answered.
-fn put_range(first: Address, last: Reading, out: &mut [u8]) -> BlocksWritten
+fn put_range(first: Address, last: Result<Address, Refusal>, out: &mut [u8]) -> BlocksWritten
     ensures { outcome (blocks_written_answer result) out.new ≡ range_to first (reading_answer last) out.old }
 {
     match last {
-        Reading::Read(b) => as_blocks_written(range_blocks(first, b, out)),
-        Reading::Refused(e) => as_blocks_written(BlocksWriting::Refused(e)),
+        Ok(b) => BlocksWritten::from(range_blocks(first, b, out)),
+        Err(e) => BlocksWritten::from(Err(e)),
     }
 }
 
@@ -139,8 +137,8 @@ pub extern "C" fn nibharrow_range_blocks(first: &[u8], last: &[u8], out: &mut [u
     ensures { outcome (blocks_written_answer result) out.new ≡ range_into first.now last.now out.old }
 {
     match read_octets(first) {
-        Reading::Read(a) => put_range(a, read_octets(last), out),
-        Reading::Refused(e) => as_blocks_written(BlocksWriting::Refused(e)),
+        Ok(a) => put_range(a, read_octets(last), out),
+        Err(e) => BlocksWritten::from(Err(e)),
     }
 }
 
@@ -148,14 +146,14 @@ pub extern "C" fn nibharrow_range_blocks(first: &[u8], last: &[u8], out: &mut [u
 pub extern "C" fn nibharrow_gather(records: &[u8], family: u32, out: &mut [u8]) -> BlocksWritten
     ensures { outcome (blocks_written_answer result) out.new ≡ gather_into family records.now out.old }
 {
-    as_blocks_written(gather(as_byte(family), records, out))
+    BlocksWritten::from(gather(as_byte(family), records, out))
 }
 
 #[unsafe(no_mangle)]
 pub extern "C" fn nibharrow_uncovered(records: &[u8], family: u32, out: &mut [u8]) -> BlocksWritten
     ensures { outcome (blocks_written_answer result) out.new ≡ uncovered_into family records.now out.old }
 {
-    as_blocks_written(uncovered(as_byte(family), records, out))
+    BlocksWritten::from(uncovered(as_byte(family), records, out))
 }
 
 // Any number but 0 asks for the lines sorted.
@@ -163,12 +161,12 @@ pub extern "C" fn nibharrow_uncovered(records: &[u8], family: u32, out: &mut [u8
 pub extern "C" fn nibharrow_respell(sheet: &[u8], sorted: u32, out: &mut [u8]) -> Written
     ensures { outcome (written_answer result) out.new ≡ respell_into sorted sheet.now out.old }
 {
-    as_written(respell(sheet, sorted != 0, out))
+    Written::from(respell(sheet, sorted != 0, out))
 }
 
 #[unsafe(no_mangle)]
 pub extern "C" fn nibharrow_refusal_text(number: u32, out: &mut [u8]) -> Written
     ensures { outcome (written_answer result) out.new ≡ words_into number out.old }
 {
-    as_written(write_words(number, out))
+    Written::from(write_words(number, out))
 }

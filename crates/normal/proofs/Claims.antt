@@ -1,9 +1,9 @@
 -- What is claimed of normal text, and of strict and normal text together (01, "Normal text"; demand 2). Assumes nothing.
+use Rattle.std.specs.Prelude.{Some}
 use mathlib.Core.Path.{◌≡◌, refl}
 use mathlib.Core.Logic.{◌↔◌}
 use mathlib.Core.Bool.{false}
 use mathlib.Core.List.{List, map}
-use mathlib.Core.Option.{some}
 use Prim.Native.Nat.{ℕ, ◌≤◌, ◌<◌}
 use native.Mathlib.Omega.{arith}
 use borrow.Author.Tests.{lt-ltb, le-ltb}
@@ -48,7 +48,7 @@ module _ (a : Address) (old : List ℕ) where
 -- ---- reading what was written
 
 -- Demand 2: reading the normal text of an address returns that address, asked for by its family or by 0.
-pub read_back : (a : Address) → IsAddress a → (strict_of 0 (normal_text a) ≡ some a) × (strict_of (family a) (normal_text a) ≡ some a)
+pub read_back : (a : Address) → IsAddress a → (strict_of 0 (normal_text a) ≡ Some a) × (strict_of (family a) (normal_text a) ≡ Some a)
 read_back = text_read
 
 pub read_back_answer : (a : Address) → IsAddress a → (strict_answer 0 (normal_text a) ≡ gives a) × (strict_answer (family a) (normal_text a) ≡ gives a)
@@ -63,10 +63,10 @@ written_read_back a h old n e =
 
 -- "`::` may stand once for one or more whole zero groups": for any zeros that it stands for the groups are the same, and so are they without it.
 module _ (gs : List ℕ) (long : length gs ≡ 8) (small : AllBelow 65536 gs) where
-  pub any_zeros : (start n : ℕ) → ZeroRun gs start n → 1 ≤ n → eight_of (shortened start n gs) ≡ some gs
+  pub any_zeros : (start n : ℕ) → ZeroRun gs start n → 1 ≤ n → eight_of (shortened start n gs) ≡ Some gs
   any_zeros = shortened_read gs long small
 
-  pub no_zeros : eight_of (groups_text gs) ≡ some gs
+  pub no_zeros : eight_of (groups_text gs) ≡ Some gs
   no_zeros = groups_read gs long small
 
 -- ---- the run that is shortened

@@ -1,8 +1,8 @@
 -- What a normal text is read as: its numbers, wherever `::` stands for zeros. Assumes nothing.
+use Rattle.std.specs.Prelude.{Some}
 use mathlib.Core.Path.{◌≡◌, refl, ap, ◌∙◌}
 use mathlib.Core.Bool.{Bool, true, false, cond}
 use mathlib.Core.List.{List, ◌∷◌, ◌++◌, map}
-use mathlib.Core.Option.{some}
 use Prim.Native.Nat.{ℕ, ◌+◌, ◌-◌, ◌≤◌}
 use native.Mathlib.Omega.{arith}
 use borrow.Author.Tests.{ltb-false}
@@ -38,17 +38,17 @@ use Rattle.normal.proofs.BoundLaws.{text_most}
 
 -- ---- numbers, each written and read
 
-every_hex : (gs : List ℕ) → AllBelow 65536 gs → every group_of (map hex gs) ≡ some gs
+every_hex : (gs : List ℕ) → AllBelow 65536 gs → every group_of (map hex gs) ≡ Some gs
 every_hex = every_written 65536 group_of hex hex_group
 
 -- ---- groups
 
 module _ (gs : List ℕ) (long : length gs ≡ 8) (small : AllBelow 65536 gs) where
-  pub groups_read : eight_of (groups_text gs) ≡ some gs
+  pub groups_read : eight_of (groups_text gs) ≡ Some gs
   unfolding groups_text
   groups_read = eight_spelling (map hex gs) gs (every_hex gs small) long
 
-  pub shortened_read : (s n : ℕ) → ZeroRun gs s n → 1 ≤ n → eight_of (shortened s n gs) ≡ some gs
+  pub shortened_read : (s n : ℕ) → ZeroRun gs s n → 1 ≤ n → eight_of (shortened s n gs) ≡ Some gs
   unfolding shortened
   shortened_read s n r one =
       let xs = take s gs in
@@ -59,14 +59,14 @@ module _ (gs : List ℕ) (long : length gs ≡ 8) (small : AllBelow 65536 gs) wh
       let count : 8 - (length xs + length ys) ≡ n = omega arith in
       let back : xs ++ (replicate n 0 ++ ys) ≡ gs = rw (← r.zeros, ← drop-drop n s gs, take-append-drop n (drop s gs), take-append-drop s gs) in
       gap_spelling (map hex xs) (map hex ys) xs ys (every_hex xs (below_take 65536 s gs small)) (every_hex ys (below_drop 65536 (s + n) gs small)) (omega arith)
-      ∙ ap (λ (k : ℕ). some (xs ++ (replicate k 0 ++ ys))) count
-      ∙ ap some back
+      ∙ ap (λ (k : ℕ). Some (xs ++ (replicate k 0 ++ ys))) count
+      ∙ ap Some back
 
-  normal_read : eight_of (normal_groups gs) ≡ some gs
+  normal_read : eight_of (normal_groups gs) ≡ Some gs
   unfolding normal_groups
   normal_read = pick (ltb (longest_run gs) 2) refl
     where
-      pick : (b : Bool) → ltb (longest_run gs) 2 ≡ b → eight_of (cond b (groups_text gs) (shortened (first_run (longest_run gs) gs) (longest_run gs) gs)) ≡ some gs
+      pick : (b : Bool) → ltb (longest_run gs) 2 ≡ b → eight_of (cond b (groups_text gs) (shortened (first_run (longest_run gs) gs) (longest_run gs) gs)) ≡ Some gs
       pick true q = groups_read
       pick false q = shortened_read (first_run (longest_run gs) gs) (longest_run gs) (run_is gs).run (omega (arith, ltb-false (longest_run gs) 2 q))
 
@@ -74,21 +74,21 @@ module _ (gs : List ℕ) (long : length gs ≡ 8) (small : AllBelow 65536 gs) wh
 
 -- a text of one family, read as that family and as either
 module _ (t : List ℕ) where
-  strict_4 : (v : ℕ) → dotted_of t ≡ some v → (strict_of 0 t ≡ some (V4 v)) × (strict_of 4 t ≡ some (V4 v))
+  strict_4 : (v : ℕ) → dotted_of t ≡ Some v → (strict_of 0 t ≡ Some (V4 v)) × (strict_of 4 t ≡ Some (V4 v))
   unfolding strict_of
   strict_4 v e = (rw e, rw e)
 
-  strict_6 : (gs : List ℕ) → eight_of t ≡ some gs → (strict_of 0 t ≡ some (groups_address gs)) × (strict_of 6 t ≡ some (groups_address gs))
+  strict_6 : (gs : List ℕ) → eight_of t ≡ Some gs → (strict_of 0 t ≡ Some (groups_address gs)) × (strict_of 6 t ≡ Some (groups_address gs))
   unfolding strict_of
   strict_6 gs e = let n = colon_not_dotted t (eight_colon t gs e) in (rw (n, e), rw e)
 
-pub text_read : (a : Address) → IsAddress a → (strict_of 0 (normal_text a) ≡ some a) × (strict_of (family a) (normal_text a) ≡ some a)
+pub text_read : (a : Address) → IsAddress a → (strict_of 0 (normal_text a) ≡ Some a) × (strict_of (family a) (normal_text a) ≡ Some a)
 unfolding normal_text groups_of
 text_read (V4 v) h = strict_4 (normal_text (V4 v)) v (dotted_back v h)
 text_read (V6 hi lo) h =
     let n = number (V6 hi lo) in
     let read = strict_6 (normal_text (V6 hi lo)) (groups_of hi lo) (normal_read (groups_of hi lo) (digits_length 65536 8 n) (digits_below 65536 (lit< tt) 8 n)) in
-    let back = ap some (halves_of_groups hi lo h.0 h.1) in
+    let back = ap Some (halves_of_groups hi lo h.0 h.1) in
     (read.0 ∙ back, read.1 ∙ back)
 
 -- ---- answers

@@ -6,7 +6,7 @@ ghost use Rattle.address.specs.Answers.{writing_answer, write_answer, write_leav
 ghost use Rattle.output.specs.Placing.{Puts};
 ghost use Rattle.normal.specs.Normal.{normal_text};
 
-use address::{Address, Writing};
+use address::{Address, Refusal};
 use address_groups::groups;
 use build::put_eight;
 use ipv4_text::put_dotted;
@@ -26,7 +26,7 @@ pub fn put_address(text: &mut [u8], at: usize, address: Address) -> usize
 }
 
 // Writes the normal text of an address to the start of `out`, where there is room for it.
-pub fn write_address(address: Address, out: &mut [u8]) -> Writing
+pub fn write_address(address: Address, out: &mut [u8]) -> Result<usize, Refusal>
     ensures { (writing_answer result ≡ write_answer 0 (normal_text address) out.old) × (out.new ≡ write_leaves 0 (normal_text address) out.old) }
 {
     let mut text = [0u8; 48];

@@ -1,9 +1,9 @@
 -- What is claimed of numbers as digits, of the pieces of a text, of what is read of each piece, and of bytes of ASCII. Assumes nothing.
+use Rattle.std.specs.Prelude.{Option, Some, None}
 use mathlib.Core.Path.{◌≡◌, refl}
 use mathlib.Core.Logic.{◌⊎◌, ◌↔◌}
 use mathlib.Core.Bool.{true}
 use mathlib.Core.List.{List, [], ◌∷◌, ◌++◌, map}
-use mathlib.Core.Option.{Option, some, none}
 use Prim.Native.Nat.{ℕ, ◌+◌, ◌*◌, ◌^◌, ◌≤◌, ◌<◌}
 use lib.ListN.{length, take}
 use Rattle.notation.specs.Ascii.{ascii, within}
@@ -69,11 +69,11 @@ module _ (b : ℕ) where
 -- ---- what is read of each piece
 
 -- All pieces are read as numbers exactly if each is read as its own number, in order.
-pub every_exactly : (f : List ℕ → Option ℕ) (ps : List (List ℕ)) (xs : List ℕ) → (every f ps ≡ some xs) ↔ (map f ps ≡ map some xs)
+pub every_exactly : (f : List ℕ → Option ℕ) (ps : List (List ℕ)) (xs : List ℕ) → (every f ps ≡ Some xs) ↔ (map f ps ≡ map Some xs)
 every_exactly = reads.every_exactly
 
 -- Of two readings the first is taken, and the second only where the first is not there.
-pub or_else_exactly : {A : Type 0} (o u : Option A) (a : A) → (or_else o u ≡ some a) ↔ ((o ≡ some a) ⊎ (o ≡ none) × (u ≡ some a))
+pub or_else_exactly : {A : Type 0} (o u : Option A) (a : A) → (or_else o u ≡ Some a) ↔ ((o ≡ Some a) ⊎ (o ≡ None) × (u ≡ Some a))
 or_else_exactly = options.or_else_exactly
 
 -- ---- bytes of ASCII

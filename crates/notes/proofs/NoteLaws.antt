@@ -1,7 +1,7 @@
 -- The words of a note, how long it is, and what it tells. Assumes nothing.
+use Rattle.std.specs.Prelude.{Option, Some, None}
 use mathlib.Core.Path.{◌≡◌, refl, sym, ap, ◌∙◌}
 use mathlib.Core.List.{List, [], ◌∷◌, ◌++◌, append_assoc, append_cancel_left}
-use mathlib.Core.Option.{Option, some, none}
 use Prim.Native.Nat.{ℕ, suc, ◌≤◌, ◌<◌, ◌^◌}
 use native.Mathlib.Omega.{arith}
 use lib.Dec.{lit≤, lit<}
@@ -33,8 +33,8 @@ module _ (n : ℕ) (old : List ℕ) where
   no_words room x e = go (refusal_words n) refl
     where
       go : (o : Option (List ℕ)) → refusal_words n ≡ o → [] ≡ words_text n
-      go none m = rw m
-      go (some t) m =
+      go None m = rw m
+      go (Some t) m =
           let known = (words_exactly n).0 (ap missing m) in
           let good = (good_exactly n old).1 (known.0, known.1, omega (arith, (at_most_54 n).0)) in
           absurd (omega (arith, number_above_0 x, ap (λ r. r.number) (e ∙ good)))
@@ -71,7 +71,7 @@ told k one m n h l t u e =
     no_colon : (n : ℕ) → Lacks 58 (numeral 10 k n)
     no_colon n = no_digit 10 58 (numeral 10 k n) (lit≤ tt) colon (numeral_digits 10 k n (lit≤ tt) (lit< tt) one).all
 
-    read : (n : ℕ) → n < 10 ^ k → text_number 10 (numeral 10 k n) ≡ some n
+    read : (n : ℕ) → n < 10 ^ k → text_number 10 (numeral 10 k n) ≡ Some n
     read n = numeral_read 10 k n (lit≤ tt) (lit< tt) one
 
 pub one_note : (name : List ℕ) (line line' n n' : ℕ) → line < 10 ^ 20 → line' < 10 ^ 20 → n < 1000 → n' < 1000

@@ -5,7 +5,6 @@ ghost use Rattle.output.specs.Placing.{Puts};
 ghost use Rattle.words.specs.Words.{words_text};
 ghost use Rattle.notes.specs.Notes.{note_text};
 
-use address::Writing;
 use output::{put, put_bytes, put_decimal, put_number};
 use words::write_words;
 
@@ -15,8 +14,8 @@ fn put_words(out: &mut [u8], at: usize, number: u8) -> usize
 {
     let mut words = [0u8; 54];
     match write_words(number as u32, &mut words) {
-        Writing::Wrote(n) => put_bytes(out, at, &words[..n]),
-        Writing::Refused(_) => at,
+        Ok(n) => put_bytes(out, at, &words[..n]),
+        Err(_) => at,
     }
 }
 

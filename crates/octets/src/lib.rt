@@ -6,7 +6,7 @@ ghost use Rattle.notation.specs.BigEndian.{digits_of, number_of};
 ghost use Rattle.address.specs.Answers.{reading_answer, writing_answer, write_answer, write_leaves};
 ghost use Rattle.octets.specs.Octets.{octets, octets_answer};
 
-use address::{Address, Reading, Refusal, Writing};
+use address::{Address, Refusal};
 
 // Puts four bytes at the start of `out`, where there is room for them. Else it puts nothing, outside 01, which gives refusal 3.
 pub fn put_four(v: u32, out: &mut [u8])
@@ -33,24 +33,24 @@ pub fn put_eight(v: u64, out: &mut [u8])
 }
 
 // Puts the address at the start of `out`, where there is room for it.
-pub fn write_octets(address: Address, out: &mut [u8]) -> Writing
+pub fn write_octets(address: Address, out: &mut [u8]) -> Result<usize, Refusal>
     ensures { (writing_answer result ≡ write_answer 0 (octets address) out.old) × (out.new ≡ write_leaves 0 (octets address) out.old) }
 {
     match address {
         Address::V4(v) => {
             if out.len() < 4 {
-                return Writing::Refused(Refusal::NoRoom);
+                return Err(Refusal::NoRoom);
             }
             put_four(v, out);
-            Writing::Wrote(4)
+            Ok(4)
         }
         Address::V6(hi, lo) => {
             if out.len() < 16 {
-                return Writing::Refused(Refusal::NoRoom);
+                return Err(Refusal::NoRoom);
             }
             put_eight(hi, out);
             put_eight(lo, &mut out[8..]);
-            Writing::Wrote(16)
+            Ok(16)
         }
     }
 }
@@ -101,14 +101,14 @@ fn eight(bytes: &[u8], at: usize) -> u64
 }
 
 // The address that four or sixteen bytes are.
-pub fn read_octets(bytes: &[u8]) -> Reading
+pub fn read_octets(bytes: &[u8]) -> Result<Address, Refusal>
     ensures { reading_answer result ≡ octets_answer bytes.now }
 {
     if bytes.len() == 4 {
-        return Reading::Read(Address::V4(four(bytes, 0)));
+        return Ok(Address::V4(four(bytes, 0)));
     }
     if bytes.len() == 16 {
-        return Reading::Read(Address::V6(eight(bytes, 0), eight(bytes, 8)));
+        return Ok(Address::V6(eight(bytes, 0), eight(bytes, 8)));
     }
-    Reading::Refused(Refusal::Malformed)
+    Err(Refusal::Malformed)
 }

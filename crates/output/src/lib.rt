@@ -32,14 +32,12 @@ pub fn put_bytes(text: &mut [u8], at: usize, bytes: &[u8]) -> usize
     ensures { Puts text.old text.new at result bytes.now }
 {
     let mut next = at;
-    let mut i: usize = 0;
-    while i < bytes.len() {
+    for &byte in bytes {
         if text.len() <= next {
             return next;
         }
-        text[next] = bytes[i];
+        text[next] = byte;
         next += 1;
-        i += 1;
     }
     next
 }

@@ -1,5 +1,5 @@
 -- What is claimed of the place that refusal 2 carries (02, Req 02). Assumes nothing.
-use mathlib.Core.Path.{◌≡◌, refl, sym, ap, subst, ◌∙◌}
+use mathlib.Core.Path.{◌≡◌, refl, sym, subst, ◌∙◌}
 use mathlib.Core.Logic.{◌↔◌}
 use mathlib.Core.Bool.{Bool, true, ◌&&◌}
 use mathlib.Core.List.{List, [], ◌∷◌, ◌++◌}
@@ -8,8 +8,8 @@ use Prim.Native.String.{String}
 use native.Mathlib.Omega.{arith}
 use borrow.Author.Tests.{eq-eqb, ne_eqb}
 use lib.Dec.{eqb}
-use lib.ListN.{length, take}
-use lib.Seq.{take-length, length-take-le}
+use lib.ListN.{length}
+use lib.Seq.{take-length}
 use Rattle.notation.specs.Ascii.{ascii}
 use Rattle.digits.specs.Numerals.{part_of, group_of, digit_count, digit_of, all_digits}
 use Rattle.notation.specs.Options.{every}
@@ -18,7 +18,7 @@ use Rattle.address.specs.declared.Address.TheVariants.{V6}
 use Rattle.address.specs.Answers.{gives, read_answer}
 use Rattle.address_groups.specs.Groups.{groups_address}
 use Rattle.text.specs.Strict.{known_family, strict_answer}
-use Rattle.place.specs.Place.{Accepted, Beginning, LongestBeginning, fault_place, placed_answer}
+use Rattle.place.specs.Place.{Accepted, LongestBeginning, fault_place, placed_answer}
 use Rattle.place.proofs.PlaceLaws as laws
 
 -- There is one such length.

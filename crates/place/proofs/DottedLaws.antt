@@ -1,9 +1,9 @@
 -- IPv4 text: how far a text goes on as one. Assumes nothing.
+use Rattle.std.specs.Prelude.{Some}
 use mathlib.Core.Path.{◌≡◌, refl, sym, ap, subst, ◌∙◌}
 use mathlib.Core.Bool.{Bool, true, false, cond, or-true}
 use mathlib.Core.List.{List, [], ◌∷◌, ◌++◌, append-nil}
-use mathlib.Core.Option.{some}
-use Prim.Native.Nat.{ℕ, zero, suc, ◌+◌, ◌<◌}
+use Prim.Native.Nat.{ℕ, zero, suc, ◌<◌}
 use native.Mathlib.Omega.{arith}
 use borrow.Author.Tests.{eq-eqb, eqb-true}
 use lib.Dec.{eqb}
@@ -73,7 +73,7 @@ separated_split b (x ∷ t) = go (eqb x b) refl (split_first b t) (separated_spl
 pub record Spelt (n : ℕ) (w : List ℕ) : Type 0 where
   pub pieces : List (List ℕ)
   pub numbers : List ℕ
-  pub read : every (part_of 255) pieces ≡ some numbers
+  pub read : every (part_of 255) pieces ≡ Some numbers
   pub count : length numbers ≡ suc n
   pub some_pieces : 0 < length pieces
   pub is : separated 46 pieces ≡ w
@@ -113,12 +113,12 @@ spelt_parts (suc n) (more {p} {x} e (more {p = q} {ps = ps} f r)) h = record {
   is = refl;
 }
 
-pub dotted_rule : (w : List ℕ) (v : ℕ) → dotted_of w ≡ some v → Parts 3 w
+pub dotted_rule : (w : List ℕ) (v : ℕ) → dotted_of w ≡ Some v → Parts 3 w
 dotted_rule w v e =
     let o = dotted_octets w v e in
     subst (Parts 3) (separated_split 46 w) (spelt_parts 3 (every_reads (part_of 255) (split_on 46 w) o.0 o.1.each) o.2)
 
-pub rule_dotted : (w : List ℕ) → Parts 3 w → (v : ℕ) × (dotted_of w ≡ some v)
+pub rule_dotted : (w : List ℕ) → Parts 3 w → (v : ℕ) × (dotted_of w ≡ Some v)
 rule_dotted w m =
     let s = parts_spelt 3 w m in
     (number_of 256 s.numbers, ap dotted_of (sym s.is) ∙ dotted_spelling s.pieces s.numbers s.read s.count)

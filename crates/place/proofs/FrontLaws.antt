@@ -1,8 +1,8 @@
 -- Parts and groups at the start of a text, whole or begun. Assumes nothing.
+use Rattle.std.specs.Prelude.{Option, Some, None}
 use mathlib.Core.Path.{◌≡◌, refl, sym, ap, subst, ◌∙◌}
 use mathlib.Core.Bool.{Bool, true, false, cond, ◌||◌, and-eq-true_iff}
 use mathlib.Core.List.{List, [], ◌∷◌, map}
-use mathlib.Core.Option.{Option, some, none}
 use Prim.Native.Nat.{ℕ, zero, suc, ◌+◌, ◌*◌, ◌≤◌, ◌<◌, min}
 use native.Mathlib.Decide.{dec_le}
 use native.Mathlib.Omega.{arith}
@@ -34,7 +34,7 @@ digits_begin base (suc q) (c ∷ t) e =
 -- ---- parts
 
 abbrev pub Part : List ℕ → Type 0
-Part p = (x : ℕ) × (part_of 255 p ≡ some x)
+Part p = (x : ℕ) × (part_of 255 p ≡ Some x)
 
 record PartIs (p : List ℕ) : Type 0 where
   digits : Digits 10 p
@@ -42,18 +42,18 @@ record PartIs (p : List ℕ) : Type 0 where
   short : length p ≤ 3
   small : number_of 10 (map digit_of p) ≤ 255
 
-part_is : (p : List ℕ) (x : ℕ) → part_of 255 p ≡ some x → PartIs p
+part_is : (p : List ℕ) (x : ℕ) → part_of 255 p ≡ Some x → PartIs p
 unfolding part_of
 part_is p x e = go (leading_zero p) refl (ltb 3 (length p)) refl e
   where
     d : Digits 10 p
     d = part_digits 255 p x e
 
-    value : (b : Bool) → leb (number_of 10 (map digit_of p)) 255 ≡ b → cond b (some (number_of 10 (map digit_of p))) none ≡ some x → number_of 10 (map digit_of p) ≤ 255
+    value : (b : Bool) → leb (number_of 10 (map digit_of p)) 255 ≡ b → cond b (Some (number_of 10 (map digit_of p))) None ≡ Some x → number_of 10 (map digit_of p) ≤ 255
     value true q k = leb-true (number_of 10 (map digit_of p)) 255 q
     value false q k = let z : ◌≡◌ {A = ℕ} 0 1 = cc in absurd (omega arith)
 
-    go : (a : Bool) → leading_zero p ≡ a → (b : Bool) → ltb 3 (length p) ≡ b → cond (a || b) none (at_most 255 (text_number 10 p)) ≡ some x → PartIs p
+    go : (a : Bool) → leading_zero p ≡ a → (b : Bool) → ltb 3 (length p) ≡ b → cond (a || b) None (at_most 255 (text_number 10 p)) ≡ Some x → PartIs p
     go true q b r k = let z : ◌≡◌ {A = ℕ} 0 1 = cc in absurd (omega arith)
     go false q true r k = let z : ◌≡◌ {A = ℕ} 0 1 = cc in absurd (omega arith)
     go false q false r k = record {
@@ -121,8 +121,8 @@ up_to_good (suc n) t h = go (part_of 255 (take (suc n) t)) refl (up_to_good n t)
   where
     go : (o : Option ℕ) → part_of 255 (take (suc n) t) ≡ o → (0 < part_up_to n t → Part (take (part_up_to n t) t))
         → 0 < cond (present o) (suc n) (part_up_to n t) → Part (take (cond (present o) (suc n) (part_up_to n t)) t)
-    go none q ih k = ih k
-    go (some x) q ih k = (x, q)
+    go None q ih k = ih k
+    go (Some x) q ih k = (x, q)
 
 up_to_most : (n q : ℕ) (t : List ℕ) → Part (take q t) → q ≤ n → q ≤ part_up_to n t
 unfolding part_up_to
@@ -130,12 +130,12 @@ up_to_most zero q t p l = omega arith
 up_to_most (suc n) q t p l = go (part_of 255 (take (suc n) t)) refl (up_to_most n q t p)
   where
     go : (o : Option ℕ) → part_of 255 (take (suc n) t) ≡ o → (q ≤ n → q ≤ part_up_to n t) → q ≤ cond (present o) (suc n) (part_up_to n t)
-    go (some x) e ih = l
-    go none e ih = elim (dec_le q n) [
+    go (Some x) e ih = l
+    go None e ih = elim (dec_le q n) [
       | yes m ↦ ih m
       | no m ↦
           let same : q ≡ suc n = omega arith in
-          let k : none ≡ some p.0 = sym e ∙ ap (λ n. part_of 255 (take n t)) (sym same) ∙ p.1 in
+          let k : None ≡ Some p.0 = sym e ∙ ap (λ n. part_of 255 (take n t)) (sym same) ∙ p.1 in
           let z : ◌≡◌ {A = ℕ} 0 1 = cc in absurd (omega arith)
     ]
 
@@ -161,13 +161,13 @@ part_fronts = record {
 -- ---- groups
 
 abbrev pub Group : List ℕ → Type 0
-Group p = (x : ℕ) × (group_of p ≡ some x)
+Group p = (x : ℕ) × (group_of p ≡ Some x)
 
 pub group_short : (p : List ℕ) → Group p → length p ≤ 4
 unfolding group_of
 group_short p (x, e) = go (ltb 4 (length p)) refl e
   where
-    go : (b : Bool) → ltb 4 (length p) ≡ b → cond b none (text_number 16 p) ≡ some x → length p ≤ 4
+    go : (b : Bool) → ltb 4 (length p) ≡ b → cond b None (text_number 16 p) ≡ Some x → length p ≤ 4
     go true q k = let z : ◌≡◌ {A = ℕ} 0 1 = cc in absurd (omega arith)
     go false q k = ltb-false 4 (length p) q
 

@@ -20,14 +20,14 @@ use Rattle.place.proofs.DottedLaws.{Parts, parts_longest, lacks_stops, ends_stop
 -- ---- the rule
 
 -- up to n groups and one more, with single colons; the last two may be one IPv4 text
-abbrev pub Some : ℕ → List ℕ → Type 0
-Some zero w = PieceThen Group Ends w
-Some (suc n) w = Either (Parts 3) (PieceThen Group (Either Ends (ByteThen 58 (Some n)))) w
+abbrev pub AtMost : ℕ → List ℕ → Type 0
+AtMost zero w = PieceThen Group Ends w
+AtMost (suc n) w = Either (Parts 3) (PieceThen Group (Either Ends (ByteThen 58 (AtMost n)))) w
 
 -- up to n groups, or none
 abbrev pub Behind : ℕ → List ℕ → Type 0
 Behind zero w = Ends w
-Behind (suc n) w = Either Ends (Some n) w
+Behind (suc n) w = Either Ends (AtMost n) w
 
 -- n groups and one more, with single colons, or with `::` for one or more of them but the first
 abbrev pub Groups : ℕ → List ℕ → Type 0
@@ -58,11 +58,11 @@ end_or_colon_stops : (A : List ℕ → Type 0) → Stops Group (Either Ends (Byt
 end_or_colon_stops A x u (inl e) = ends_stop Group x u e
 end_or_colon_stops A x u (inr m) = colon_stops A x u m
 
-some_longest : (n : ℕ) (t : List ℕ) → Longest (Some n) t (behind_place (suc n) t)
+some_longest : (n : ℕ) (t : List ℕ) → Longest (AtMost n) t (behind_place (suc n) t)
 unfolding behind_place
 some_longest zero t = piece_longest group_fronts ends_longest (ends_stop Group) t
 some_longest (suc n) t =
-    either_longest (parts_longest 3 t) (piece_longest group_fronts (λ u. or_ends (byte_longest 58 (some_longest n) u)) (end_or_colon_stops (Some n)) t)
+    either_longest (parts_longest 3 t) (piece_longest group_fronts (λ u. or_ends (byte_longest 58 (some_longest n) u)) (end_or_colon_stops (AtMost n)) t)
 
 pub behind_longest : (n : ℕ) (t : List ℕ) → Longest (Behind n) t (behind_place n t)
 unfolding behind_place

@@ -8,7 +8,7 @@ use lib.ListN.{length, length-append}
 use Rattle.place.proofs.LongestLaws.{Ends, Either, ByteThen, PieceThen}
 use Rattle.place.proofs.FrontLaws.{part_short, Group, group_short}
 use Rattle.place.proofs.DottedLaws.{Parts}
-use Rattle.place.proofs.GroupsLaws.{Some, Behind, Groups, Eight}
+use Rattle.place.proofs.GroupsLaws.{AtMost, Behind, Groups, Eight}
 
 ends_length : {w : List ℕ} → Ends w → length w ≡ 0
 ends_length e = omega (arith, ap length e)
@@ -23,12 +23,12 @@ pub parts_length : (n : ℕ) (w : List ℕ) → Parts n w → length w ≤ 4 * n
 parts_length zero w m = omega (arith, piece_length m, part_short m.piece m.good, ends_length m.then)
 parts_length (suc n) w m = omega (arith, piece_length m, part_short m.piece m.good, byte_length m.then, parts_length n m.then.rest m.then.then)
 
-some_length : (n : ℕ) (w : List ℕ) → Some n w → length w ≤ 5 * n + 10
+some_length : (n : ℕ) (w : List ℕ) → AtMost n w → length w ≤ 5 * n + 10
 some_length zero w m = omega (arith, piece_length m, group_short m.piece m.good, ends_length m.then)
 some_length (suc n) w (inl m) = omega (arith, parts_length 3 w m)
 some_length (suc n) w (inr m) = go m.then (λ u. some_length n u)
   where
-    go : Either Ends (ByteThen 58 (Some n)) m.rest → ((u : List ℕ) → Some n u → length u ≤ 5 * n + 10) → length w ≤ 5 * suc n + 10
+    go : Either Ends (ByteThen 58 (AtMost n)) m.rest → ((u : List ℕ) → AtMost n u → length u ≤ 5 * n + 10) → length w ≤ 5 * suc n + 10
     go (inl e) ih = omega (arith, piece_length m, group_short m.piece m.good, ends_length e)
     go (inr b) ih = omega (arith, piece_length m, group_short m.piece m.good, byte_length b, ih b.rest b.then)
 

@@ -1,9 +1,9 @@
 -- The computed place is that of the sentence, from the rules that accept what is read. Assumes nothing.
+use Rattle.std.specs.Prelude.{Option, Some, None, option_map}
 use mathlib.Core.Path.{◌≡◌, refl, sym, ap, ◌∙◌}
 use mathlib.Core.Logic.{inl, inr}
 use mathlib.Core.Bool.{Bool, true, false, cond}
 use mathlib.Core.List.{List, ◌++◌}
-use mathlib.Core.Option.{Option, some, none, map}
 use Prim.Native.Nat.{ℕ, ◌≤◌, max}
 use native.Mathlib.Nat.{zero-max, max-zero}
 use native.Mathlib.Omega.{arith}
@@ -15,7 +15,7 @@ use Rattle.notation.proofs.OptionLaws.{or_none}
 use Rattle.address.specs.declared.Address.{Address}
 use Rattle.address.specs.declared.Address.TheVariants.{V4}
 use Rattle.address.specs.declared.Refusal.TheVariants.{WrongFamily}
-use Rattle.address.specs.Answers.{gives, refuses, no_address}
+use Rattle.address.specs.Answers.{refuses, no_address}
 use Rattle.address_groups.specs.Groups.{groups_address}
 use Rattle.ipv4_text.specs.Dotted.{dotted_of}
 use Rattle.ipv6_text.specs.EightGroups.{eight_of}
@@ -32,57 +32,57 @@ use Rattle.place.proofs.LengthLaws.{parts_length, eight_length}
 -- ---- a rule that accepts what is read
 
 record Same (A : List ℕ → Type 0) (read : List ℕ → Option Address) : Type 0 where
-  accepts : (w : List ℕ) → A w → (a : Address) × (read w ≡ some a)
-  only : (w : List ℕ) (a : Address) → read w ≡ some a → A w
+  accepts : (w : List ℕ) → A w → (a : Address) × (read w ≡ Some a)
+  only : (w : List ℕ) (a : Address) → read w ≡ Some a → A w
 
-same_4 : Same (Parts 3) (λ w. map V4 (dotted_of w))
+same_4 : Same (Parts 3) (λ w. option_map V4 (dotted_of w))
 same_4 = record { accepts = accepts; only = λ w a e. only w a (dotted_of w) refl e }
   where
-    accepts : (w : List ℕ) → Parts 3 w → (a : Address) × (map V4 (dotted_of w) ≡ some a)
+    accepts : (w : List ℕ) → Parts 3 w → (a : Address) × (option_map V4 (dotted_of w) ≡ Some a)
     accepts w m = let v = rule_dotted w m in (V4 v.0, rw v.1)
 
-    only : (w : List ℕ) (a : Address) (o : Option ℕ) → dotted_of w ≡ o → map V4 o ≡ some a → Parts 3 w
-    only w a none q k = let z : ◌≡◌ {A = ℕ} 0 1 = cc in absurd (omega arith)
-    only w a (some v) q k = dotted_rule w v q
+    only : (w : List ℕ) (a : Address) (o : Option ℕ) → dotted_of w ≡ o → option_map V4 o ≡ Some a → Parts 3 w
+    only w a None q k = let z : ◌≡◌ {A = ℕ} 0 1 = cc in absurd (omega arith)
+    only w a (Some v) q k = dotted_rule w v q
 
-same_6 : Same Eight (λ w. map groups_address (eight_of w))
+same_6 : Same Eight (λ w. option_map groups_address (eight_of w))
 same_6 = record { accepts = accepts; only = λ w a e. only w a (eight_of w) refl e }
   where
-    accepts : (w : List ℕ) → Eight w → (a : Address) × (map groups_address (eight_of w) ≡ some a)
+    accepts : (w : List ℕ) → Eight w → (a : Address) × (option_map groups_address (eight_of w) ≡ Some a)
     accepts w m = let v = rule_eight w m in (groups_address v.0, rw v.1)
 
-    only : (w : List ℕ) (a : Address) (o : Option (List ℕ)) → eight_of w ≡ o → map groups_address o ≡ some a → Eight w
-    only w a none q k = let z : ◌≡◌ {A = ℕ} 0 1 = cc in absurd (omega arith)
-    only w a (some gs) q k = eight_rule w gs q
+    only : (w : List ℕ) (a : Address) (o : Option (List ℕ)) → eight_of w ≡ o → option_map groups_address o ≡ Some a → Eight w
+    only w a None q k = let z : ◌≡◌ {A = ℕ} 0 1 = cc in absurd (omega arith)
+    only w a (Some gs) q k = eight_rule w gs q
 
 same_either : {A B : List ℕ → Type 0} {f g : List ℕ → Option Address} → Same A f → Same B g → Same (Either A B) (λ w. or_else (f w) (g w))
 same_either {A} {B} {f} {g} x y = record { accepts = accepts; only = λ w a e. only w a (f w) refl e }
   where
-    first : (w : List ℕ) (o : Option Address) → (a : Address) × (g w ≡ some a) → (a : Address) × (or_else o (g w) ≡ some a)
-    first w none h = h
-    first w (some a) h = (a, refl)
+    first : (w : List ℕ) (o : Option Address) → (a : Address) × (g w ≡ Some a) → (a : Address) × (or_else o (g w) ≡ Some a)
+    first w None h = h
+    first w (Some a) h = (a, refl)
 
-    accepts : (w : List ℕ) → Either A B w → (a : Address) × (or_else (f w) (g w) ≡ some a)
+    accepts : (w : List ℕ) → Either A B w → (a : Address) × (or_else (f w) (g w) ≡ Some a)
     accepts w (inl m) = let v = x.accepts w m in (v.0, rw v.1)
     accepts w (inr m) = first w (f w) (y.accepts w m)
 
-    only : (w : List ℕ) (a : Address) (o : Option Address) → f w ≡ o → or_else o (g w) ≡ some a → Either A B w
-    only w a none q k = inr (y.only w a k)
-    only w a (some b) q k = inl (x.only w b q)
+    only : (w : List ℕ) (a : Address) (o : Option Address) → f w ≡ o → or_else o (g w) ≡ Some a → Either A B w
+    only w a None q k = inr (y.only w a k)
+    only w a (Some b) q k = inl (x.only w b q)
 
 -- ---- accepted texts
 
-strict_rule : (family : ℕ) (t : List ℕ) (a : Address) → strict_of family t ≡ some a → Either (Parts 3) Eight t
+strict_rule : (family : ℕ) (t : List ℕ) (a : Address) → strict_of family t ≡ Some a → Either (Parts 3) Eight t
 unfolding strict_of
 strict_rule family t a e = go (eqb family 6) (eqb family 4) e
   where
-    go : (b c : Bool) → or_else (cond b none (map V4 (dotted_of t))) (cond c none (map groups_address (eight_of t))) ≡ some a → Either (Parts 3) Eight t
+    go : (b c : Bool) → or_else (cond b None (option_map V4 (dotted_of t))) (cond c None (option_map groups_address (eight_of t))) ≡ Some a → Either (Parts 3) Eight t
     go true true k = let z : ◌≡◌ {A = ℕ} 0 1 = cc in absurd (omega arith)
     go true false k = inr (same_6.only t a k)
-    go false true k = inl (same_4.only t a (sym (or_none (map V4 (dotted_of t))) ∙ k))
+    go false true k = inl (same_4.only t a (sym (or_none (option_map V4 (dotted_of t))) ∙ k))
     go false false k = (same_either same_4 same_6).only t a k
 
-pub strict_most : (family : ℕ) (t : List ℕ) (a : Address) → strict_of family t ≡ some a → length t ≤ 45
+pub strict_most : (family : ℕ) (t : List ℕ) (a : Address) → strict_of family t ≡ Some a → length t ≤ 45
 strict_most family t a e = go (strict_rule family t a e)
   where
     go : Either (Parts 3) Eight t → length t ≤ 45
@@ -92,10 +92,10 @@ strict_most family t a e = go (strict_rule family t a e)
 -- ---- the place
 
 module _ (family : ℕ) (known : known_family family ≡ true) where
-  pub accepted_strict : (t : List ℕ) → Accepted family t → (a : Address) × (strict_of family t ≡ some a)
+  pub accepted_strict : (t : List ℕ) → Accepted family t → (a : Address) × (strict_of family t ≡ Some a)
   accepted_strict t (a, e) = (a, (strict_gives family t known a e).1)
 
-  pub strict_accepted : (t : List ℕ) (a : Address) → strict_of family t ≡ some a → Accepted family t
+  pub strict_accepted : (t : List ℕ) (a : Address) → strict_of family t ≡ Some a → Accepted family t
   strict_accepted t a e = (a, gives_strict family t known a (omega (arith, strict_most family t a e)) e)
 
   module _ {A : List ℕ → Type 0} {read : List ℕ → Option Address} (s : Same A read) (e : (w : List ℕ) → read w ≡ strict_of family w) where

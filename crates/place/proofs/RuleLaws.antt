@@ -1,9 +1,9 @@
 -- What is read as eight groups, the rule of IPv6 text accepts. Assumes nothing.
+use Rattle.std.specs.Prelude.{Option, Some, None, option_map}
 use mathlib.Core.Path.{◌≡◌, refl, sym, ap, subst, ◌∙◌}
 use mathlib.Core.Logic.{◌⊎◌, inl, inr}
 use mathlib.Core.Bool.{Bool, true, false, cond, ◌&&◌}
 use mathlib.Core.List.{List, [], ◌∷◌, ◌++◌, append_assoc, append-nil}
-use mathlib.Core.Option.{Option, some, none, map}
 use Prim.Native.Nat.{ℕ, zero, suc, ◌+◌, ◌-◌, ◌≤◌, ◌<◌}
 use native.Mathlib.Omega.{arith}
 use borrow.Author.Tests.{eqb-true, leb-true, ltb-true}
@@ -21,9 +21,9 @@ use Rattle.ipv6_text.specs.EightGroups.{tail_of, pieces_of, side_of, gap_of, fil
 use Rattle.place.proofs.LongestLaws.{Ends, PieceThen}
 use Rattle.place.proofs.FrontLaws.{Group}
 use Rattle.place.proofs.DottedLaws.{dotted_rule, separated_split}
-use Rattle.place.proofs.GroupsLaws.{Some, Behind, Groups, Eight}
+use Rattle.place.proofs.GroupsLaws.{AtMost, Behind, Groups, Eight}
 
-nothing : {A : Type 0} {a : A} {P : Type 0} → none ≡ some a → P
+nothing : {A : Type 0} {a : A} {P : Type 0} → None ≡ Some a → P
 nothing e = let z : ◌≡◌ {A = ℕ} 0 1 = cc in absurd (omega arith)
 
 -- ---- what a reading of pieces says
@@ -31,35 +31,35 @@ nothing e = let z : ◌≡◌ {A = ℕ} 0 1 = cc in absurd (omega arith)
 record More (o : Option ℕ) (os : Option (List ℕ)) (gs : List ℕ) : Type 0 where
   first : ℕ
   others : List ℕ
-  is_first : o ≡ some first
-  are_others : os ≡ some others
+  is_first : o ≡ Some first
+  are_others : os ≡ Some others
   are : first ∷ others ≡ gs
 
-joined_is : (o : Option ℕ) (os : Option (List ℕ)) (gs : List ℕ) → joined (single o) os ≡ some gs → More o os gs
-joined_is none os gs e = nothing e
-joined_is (some x) none gs e = nothing e
-joined_is (some x) (some hs) gs e = record { first = x; others = hs; is_first = refl; are_others = refl; are = cc }
+joined_is : (o : Option ℕ) (os : Option (List ℕ)) (gs : List ℕ) → joined (single o) os ≡ Some gs → More o os gs
+joined_is None os gs e = nothing e
+joined_is (Some x) None gs e = nothing e
+joined_is (Some x) (Some hs) gs e = record { first = x; others = hs; is_first = refl; are_others = refl; are = cc }
 
 -- the last piece: a group, or an IPv4 text
 record Tail (p gs : List ℕ) : Type 0 where
   value : ℕ
-  read : dotted_of p ≡ some value
+  read : dotted_of p ≡ Some value
   two : length gs ≡ 2
 
-last_is : (d : Bool) (p gs : List ℕ) → or_else (single (group_of p)) (cond d (tail_of p) none) ≡ some gs → (Group p × (length gs ≡ 1)) ⊎ (Tail p gs × (d ≡ true))
+last_is : (d : Bool) (p gs : List ℕ) → or_else (single (group_of p)) (cond d (tail_of p) None) ≡ Some gs → (Group p × (length gs ≡ 1)) ⊎ (Tail p gs × (d ≡ true))
 unfolding tail_of
 last_is d p gs e = go (group_of p) refl d (dotted_of p) refl e
   where
     go : (o : Option ℕ) → group_of p ≡ o → (d : Bool) (v : Option ℕ) → dotted_of p ≡ v
-        → or_else (single o) (cond d (map (digits_of 65536 2) v) none) ≡ some gs → (Group p × (length gs ≡ 1)) ⊎ (Tail p gs × (d ≡ true))
-    go (some x) q d v r k = let s : x ∷ [] ≡ gs = cc in inl ((x, q), sym (ap length s))
-    go none q true (some v) r k =
+        → or_else (single o) (cond d (option_map (digits_of 65536 2) v) None) ≡ Some gs → (Group p × (length gs ≡ 1)) ⊎ (Tail p gs × (d ≡ true))
+    go (Some x) q d v r k = let s : x ∷ [] ≡ gs = cc in inl ((x, q), sym (ap length s))
+    go None q true (Some v) r k =
         let s : digits_of 65536 2 v ≡ gs = cc in
         inr (record { value = v; read = r; two = sym (ap length s) ∙ digits_length 65536 2 v }, refl)
-    go none q true none r k = nothing k
-    go none q false v r k = nothing k
+    go None q true None r k = nothing k
+    go None q false v r k = nothing k
 
-pieces_any : (d : Bool) (p : List ℕ) (ps : List (List ℕ)) (gs : List ℕ) → pieces_of d (p ∷ ps) ≡ some gs → 0 < length gs
+pieces_any : (d : Bool) (p : List ℕ) (ps : List (List ℕ)) (gs : List ℕ) → pieces_of d (p ∷ ps) ≡ Some gs → 0 < length gs
 unfolding pieces_of
 pieces_any d p [] gs e = go (last_is d p gs e)
   where
@@ -73,22 +73,22 @@ pieces_any d p (q ∷ ps) gs e = let m = joined_is (group_of p) (pieces_of d (q 
 last_group : (p : List ℕ) → Group p → PieceThen Group Ends p
 last_group p g = record { piece = p; rest = []; good = g; then = refl; is = append-nil p }
 
-some_last : (n : ℕ) (p : List ℕ) → Group p → Some n p
+some_last : (n : ℕ) (p : List ℕ) → Group p → AtMost n p
 some_last zero p g = last_group p g
 some_last (suc n) p g = inr (record { piece = p; rest = []; good = g; then = inl refl; is = append-nil p })
 
-some_more : (n : ℕ) (p w : List ℕ) → Group p → Some n w → Some (suc n) (p ++ 58 ∷ w)
+some_more : (n : ℕ) (p w : List ℕ) → Group p → AtMost n w → AtMost (suc n) (p ++ 58 ∷ w)
 some_more n p w g h = inr (record { piece = p; rest = 58 ∷ w; good = g; then = inr (record { rest = w; then = h; is = refl }); is = refl })
 
-some_dotted : (n : ℕ) (p gs : List ℕ) → Tail p gs → length gs ≤ suc n → Some n p
+some_dotted : (n : ℕ) (p gs : List ℕ) → Tail p gs → length gs ≤ suc n → AtMost n p
 some_dotted zero p gs t h = absurd (omega (arith, t.two))
 some_dotted (suc n) p gs t h = inl (dotted_rule p t.value t.read)
 
-pieces_some : (n : ℕ) (p : List ℕ) (ps : List (List ℕ)) (gs : List ℕ) → pieces_of true (p ∷ ps) ≡ some gs → length gs ≤ suc n → Some n (separated 58 (p ∷ ps))
+pieces_some : (n : ℕ) (p : List ℕ) (ps : List (List ℕ)) (gs : List ℕ) → pieces_of true (p ∷ ps) ≡ Some gs → length gs ≤ suc n → AtMost n (separated 58 (p ∷ ps))
 unfolding pieces_of separated
 pieces_some n p [] gs e h = go (last_is true p gs e)
   where
-    go : (Group p × (length gs ≡ 1)) ⊎ (Tail p gs × (true ≡ true)) → Some n p
+    go : (Group p × (length gs ≡ 1)) ⊎ (Tail p gs × (true ≡ true)) → AtMost n p
     go (inl g) = some_last n p g.0
     go (inr t) = some_dotted n p gs t.0 h
 pieces_some zero p (q ∷ ps) gs e h =
@@ -104,14 +104,14 @@ split_some t F f =
     let s = split_first 58 t in
     subst F (sym s.1) (f (take (index_of 58 t) t) s.0 (ap (separated 58) (sym s.1) ∙ separated_split 58 t))
 
-side_behind : (n : ℕ) (t gs : List ℕ) → side_of true t ≡ some gs → length gs ≤ n → Behind n t
+side_behind : (n : ℕ) (t gs : List ℕ) → side_of true t ≡ Some gs → length gs ≤ n → Behind n t
 unfolding side_of
 side_behind zero [] gs e h = refl
 side_behind (suc n) [] gs e h = inl refl
 side_behind zero (c ∷ t) gs e h =
-    split_some (c ∷ t) (λ qs. pieces_of true qs ≡ some gs → Behind zero (c ∷ t)) (λ p ps s k. absurd (omega (arith, pieces_any true p ps gs k))) e
+    split_some (c ∷ t) (λ qs. pieces_of true qs ≡ Some gs → Behind zero (c ∷ t)) (λ p ps s k. absurd (omega (arith, pieces_any true p ps gs k))) e
 side_behind (suc n) (c ∷ t) gs e h =
-    inr (split_some (c ∷ t) (λ qs. pieces_of true qs ≡ some gs → Some n (c ∷ t)) (λ p ps s k. subst (Some n) s (pieces_some n p ps gs k h)) e)
+    inr (split_some (c ∷ t) (λ qs. pieces_of true qs ≡ Some gs → AtMost n (c ∷ t)) (λ p ps s k. subst (AtMost n) s (pieces_some n p ps gs k h)) e)
 
 groups_more : (n : ℕ) (p w : List ℕ) → Group p → Groups n w → Groups (suc n) (p ++ 58 ∷ w)
 groups_more zero p w g h = inr (record { piece = p; rest = 58 ∷ w; good = g; then = record { rest = w; then = inr h; is = refl }; is = refl })
@@ -133,7 +133,7 @@ groups_last zero p g h = last_group p g
 groups_last (suc n) p g h = absurd (omega arith)
 
 -- eight groups without `::`
-pieces_groups : (n : ℕ) (p : List ℕ) (ps : List (List ℕ)) (gs : List ℕ) → pieces_of true (p ∷ ps) ≡ some gs → length gs ≡ suc n → Groups n (separated 58 (p ∷ ps))
+pieces_groups : (n : ℕ) (p : List ℕ) (ps : List (List ℕ)) (gs : List ℕ) → pieces_of true (p ∷ ps) ≡ Some gs → length gs ≡ suc n → Groups n (separated 58 (p ∷ ps))
 unfolding pieces_of separated
 pieces_groups n p [] gs e h = go (last_is true p gs e)
   where
@@ -148,7 +148,7 @@ pieces_groups (suc n) p (q ∷ ps) gs e h =
     groups_more n p (separated 58 (q ∷ ps)) (m.first, m.is_first) (pieces_groups n q ps m.others m.are_others (omega (arith, ap length m.are)))
 
 -- groups before `::`, and what stands behind it
-pieces_around : (n m : ℕ) (p : List ℕ) (ps : List (List ℕ)) (gs r : List ℕ) → pieces_of false (p ∷ ps) ≡ some gs → Behind m r → length gs + m ≡ n
+pieces_around : (n m : ℕ) (p : List ℕ) (ps : List (List ℕ)) (gs r : List ℕ) → pieces_of false (p ∷ ps) ≡ Some gs → Behind m r → length gs + m ≡ n
     → Groups n (separated 58 (p ∷ ps) ++ (58 ∷ 58 ∷ r))
 unfolding pieces_of separated
 pieces_around n m p [] gs r e b h = go (last_is false p gs e)
@@ -186,34 +186,34 @@ gap_at (x ∷ y ∷ t) h = go (eqb x 58) refl (eqb y 58) refl h (gap_at (y ∷ t
     go true e false f k ih = step (gap_of (y ∷ t)) (ih (omega arith))
     go false e q f k ih = step (gap_of (y ∷ t)) (ih (omega arith))
 
-side_around : (l r xs ys : List ℕ) → side_of false l ≡ some xs → side_of true r ≡ some ys → length xs + length ys ≤ 7 → Eight (l ++ (58 ∷ 58 ∷ r))
+side_around : (l r xs ys : List ℕ) → side_of false l ≡ Some xs → side_of true r ≡ Some ys → length xs + length ys ≤ 7 → Eight (l ++ (58 ∷ 58 ∷ r))
 unfolding side_of
 side_around [] r xs ys e f h = inl (record { rest = 58 ∷ r; then = record { rest = r; then = side_behind 7 r ys f (omega arith); is = refl }; is = refl })
 side_around (c ∷ l) r xs ys e f h =
-    inr (split_some (c ∷ l) (λ qs. pieces_of false qs ≡ some xs → Groups 7 ((c ∷ l) ++ (58 ∷ 58 ∷ r)))
+    inr (split_some (c ∷ l) (λ qs. pieces_of false qs ≡ Some xs → Groups 7 ((c ∷ l) ++ (58 ∷ 58 ∷ r)))
     (λ p ps s k. subst (λ u. Groups 7 (u ++ (58 ∷ 58 ∷ r))) s (pieces_around 7 (7 - length xs) p ps xs r k (side_behind (7 - length xs) r ys f (omega arith)) (omega arith))) e)
 
-side_whole : (t gs : List ℕ) → side_of true t ≡ some gs → length gs ≡ 8 → Eight t
+side_whole : (t gs : List ℕ) → side_of true t ≡ Some gs → length gs ≡ 8 → Eight t
 unfolding side_of
 side_whole [] gs e h = absurd (let s : [] ≡ gs = cc in omega (arith, ap length s))
 side_whole (c ∷ t) gs e h =
-    inr (split_some (c ∷ t) (λ qs. pieces_of true qs ≡ some gs → Groups 7 (c ∷ t)) (λ p ps s k. subst (Groups 7) s (pieces_groups 7 p ps gs k h)) e)
+    inr (split_some (c ∷ t) (λ qs. pieces_of true qs ≡ Some gs → Groups 7 (c ∷ t)) (λ p ps s k. subst (Groups 7) s (pieces_groups 7 p ps gs k h)) e)
 
-filled_few : (xs ys gs : List ℕ) → filled (some xs) (some ys) ≡ some gs → length xs + length ys ≤ 7
+filled_few : (xs ys gs : List ℕ) → filled (Some xs) (Some ys) ≡ Some gs → length xs + length ys ≤ 7
 filled_few xs ys gs e = go (leb (length xs + length ys) 7) refl e
   where
-    go : (b : Bool) → leb (length xs + length ys) 7 ≡ b → cond b (some (xs ++ (replicate (8 - (length xs + length ys)) 0 ++ ys))) none ≡ some gs → length xs + length ys ≤ 7
+    go : (b : Bool) → leb (length xs + length ys) 7 ≡ b → cond b (Some (xs ++ (replicate (8 - (length xs + length ys)) 0 ++ ys))) None ≡ Some gs → length xs + length ys ≤ 7
     go true q k = leb-true (length xs + length ys) 7 q
     go false q k = nothing k
 
-eight_count : (xs gs : List ℕ) → eight (some xs) ≡ some gs → length xs ≡ 8
+eight_count : (xs gs : List ℕ) → eight (Some xs) ≡ Some gs → length xs ≡ 8
 eight_count xs gs e = go (eqb (length xs) 8) refl e
   where
-    go : (b : Bool) → eqb (length xs) 8 ≡ b → cond b (some xs) none ≡ some gs → length xs ≡ 8
+    go : (b : Bool) → eqb (length xs) 8 ≡ b → cond b (Some xs) None ≡ Some gs → length xs ≡ 8
     go true q k = eqb-true (length xs) 8 q
     go false q k = nothing k
 
-pub eight_rule : (t gs : List ℕ) → eight_of t ≡ some gs → Eight t
+pub eight_rule : (t gs : List ℕ) → eight_of t ≡ Some gs → Eight t
 unfolding eight_of
 eight_rule t gs e = go (ltb (gap_of t) (length t)) refl (side_of false l) refl (side_of true r) refl (side_of true t) refl e
   where
@@ -224,9 +224,9 @@ eight_rule t gs e = go (ltb (gap_of t) (length t)) refl (side_of false l) refl (
     r = drop (gap_of t + 2) t
 
     go : (c : Bool) → ltb (gap_of t) (length t) ≡ c → (a : Option (List ℕ)) → side_of false l ≡ a → (b : Option (List ℕ)) → side_of true r ≡ b
-        → (s : Option (List ℕ)) → side_of true t ≡ s → cond c (filled a b) (eight s) ≡ some gs → Eight t
-    go true c none p b q s u k = nothing k
-    go true c (some xs) p none q s u k = nothing k
-    go true c (some xs) p (some ys) q s u k = subst Eight (gap_at t (ltb-true (gap_of t) (length t) c)) (side_around l r xs ys p q (filled_few xs ys gs k))
-    go false c a p b q none u k = nothing k
-    go false c a p b q (some xs) u k = side_whole t xs u (eight_count xs gs k)
+        → (s : Option (List ℕ)) → side_of true t ≡ s → cond c (filled a b) (eight s) ≡ Some gs → Eight t
+    go true c None p b q s u k = nothing k
+    go true c (Some xs) p None q s u k = nothing k
+    go true c (Some xs) p (Some ys) q s u k = subst Eight (gap_at t (ltb-true (gap_of t) (length t) c)) (side_around l r xs ys p q (filled_few xs ys gs k))
+    go false c a p b q None u k = nothing k
+    go false c a p b q (Some xs) u k = side_whole t xs u (eight_count xs gs k)

@@ -1,9 +1,9 @@
 -- What the rule of IPv6 text accepts is read. Assumes nothing.
+use Rattle.std.specs.Prelude.{Option, Some, None}
 use mathlib.Core.Path.{◌≡◌, refl, sym, ap, subst, ◌∙◌}
 use mathlib.Core.Logic.{◌⊎◌, inl, inr}
 use mathlib.Core.Bool.{Bool, true, false}
 use mathlib.Core.List.{List, [], ◌∷◌, ◌++◌, append_assoc, append-nil}
-use mathlib.Core.Option.{Option, some, none}
 use Prim.Native.Nat.{ℕ, zero, suc, ◌+◌, ◌-◌, ◌≤◌, ◌<◌}
 use native.Mathlib.Omega.{arith}
 use borrow.Author.Tests.{eq-eqb, le-leb, lt-ltb, le-ltb}
@@ -26,7 +26,7 @@ use Rattle.ipv6_text.proofs.SpellingLaws.{gap_piece}
 use Rattle.place.proofs.LongestLaws.{Ends, Either, ByteThen, PieceThen}
 use Rattle.place.proofs.FrontLaws.{Group, part_fronts, group_fronts}
 use Rattle.place.proofs.DottedLaws.{Parts, rule_dotted, separated_more}
-use Rattle.place.proofs.GroupsLaws.{Some, Behind, Groups, Eight, group_lacks}
+use Rattle.place.proofs.GroupsLaws.{AtMost, Behind, Groups, Eight, group_lacks}
 
 -- ---- pieces between colons
 
@@ -71,24 +71,24 @@ record Side (d : Bool) (w : List ℕ) : Type 0 where
   pieces : List (List ℕ)
   numbers : List ℕ
   plain : Each Plain pieces
-  read : pieces_of d pieces ≡ some numbers
+  read : pieces_of d pieces ≡ Some numbers
   is : separated 58 pieces ≡ w
 
 module _ {d : Bool} {w : List ℕ} (s : Side d w) where
-  side_reads : side_of d w ≡ some s.numbers
+  side_reads : side_of d w ≡ Some s.numbers
   side_reads = ap (side_of d) (sym s.is) ∙ side_separated d s.pieces s.plain ∙ s.read
 
   side_gap : (u : List ℕ) → gap_of (w ++ u) ≡ length w + gap_of u
   side_gap u = subst (λ l. gap_of (l ++ u) ≡ length l + gap_of u) s.is (gap_separated s.pieces u s.plain)
 
-eight_whole : {w : List ℕ} (s : Side true w) → length s.numbers ≡ 8 → eight_of w ≡ some s.numbers
+eight_whole : {w : List ℕ} (s : Side true w) → length s.numbers ≡ 8 → eight_of w ≡ Some s.numbers
 unfolding eight_of
 eight_whole {w} s h =
     let gap : gap_of w ≡ length w + gap_of [] = rw append-nil at (side_gap s []) in
     rw (le-ltb (gap_of w) (length w) (omega arith), side_reads s, eq-eqb (length s.numbers) 8 h)
 
 eight_around : {l r : List ℕ} (a : Side false l) (b : Side true r) → length a.numbers + length b.numbers ≤ 7
-    → (gs : List ℕ) × (eight_of (l ++ (58 ∷ 58 ∷ r)) ≡ some gs)
+    → (gs : List ℕ) × (eight_of (l ++ (58 ∷ 58 ∷ r)) ≡ Some gs)
 unfolding eight_of
 eight_around {l} {r} a b h =
     let u : List ℕ = 58 ∷ 58 ∷ r in
@@ -114,13 +114,13 @@ unfolding pieces_of separated
 side_group d p g = (record { pieces = p ∷ []; numbers = g.0 ∷ []; plain = (group_plain p g, tt); read = rw g.1; is = refl }, refl, refl)
 
 -- an IPv4 text is no group
-dotted_no_group : (p : List ℕ) (v : ℕ) → dotted_of p ≡ some v → group_of p ≡ none
+dotted_no_group : (p : List ℕ) (v : ℕ) → dotted_of p ≡ Some v → group_of p ≡ None
 unfolding digit_of
 dotted_no_group p v e = go (group_of p) refl
   where
-    go : (o : Option ℕ) → group_of p ≡ o → o ≡ none
-    go none q = refl
-    go (some x) q =
+    go : (o : Option ℕ) → group_of p ≡ o → o ≡ None
+    go None q = refl
+    go (Some x) q =
         let one = ap length (split_lacks 46 p (no_digit 16 46 p (lit≤ tt) refl (group_digits p x q).0.all)) in
         let o = dotted_octets p v e in
         absurd (omega (arith, o.1.pieces, o.2))
@@ -174,12 +174,12 @@ few_more n p w g f =
     let r = side_more p g f.side f.any in
     record { side = r.0; few = omega (arith, r.1, f.few); any = r.2 }
 
-some_few : (n : ℕ) (w : List ℕ) → Some n w → Few (suc n) w
+some_few : (n : ℕ) (w : List ℕ) → AtMost n w → Few (suc n) w
 some_few zero w m = subst (Few 1) (last_is m) (few_group 0 m.piece m.good)
 some_few (suc n) w (inl m) = let s = side_dotted w m in record { side = s.0; few = omega (arith, s.1); any = omega (arith, s.2) }
 some_few (suc n) w (inr m) = subst (Few (suc (suc n))) m.is (go m.rest m.then (λ u. some_few n u))
   where
-    go : (r : List ℕ) → Either Ends (ByteThen 58 (Some n)) r → ((u : List ℕ) → Some n u → Few (suc n) u) → Few (suc (suc n)) (m.piece ++ r)
+    go : (r : List ℕ) → Either Ends (ByteThen 58 (AtMost n)) r → ((u : List ℕ) → AtMost n u → Few (suc n) u) → Few (suc (suc n)) (m.piece ++ r)
     go r (inl e) ih = subst (λ r. Few (suc (suc n)) (m.piece ++ r)) e (subst (Few (suc (suc n))) (sym (append-nil m.piece)) (few_group (suc n) m.piece m.good))
     go r (inr b) ih = subst (λ r. Few (suc (suc n)) (m.piece ++ r)) b.is (few_more (suc n) m.piece b.rest m.good (ih b.rest b.then))
 
@@ -254,7 +254,7 @@ groups_spelt (suc (suc n)) w m = group_spelt (suc n) w m (groups_spelt (suc n))
 
 -- ---- eight groups
 
-pub rule_eight : (w : List ℕ) → Eight w → (gs : List ℕ) × (eight_of w ≡ some gs)
+pub rule_eight : (w : List ℕ) → Eight w → (gs : List ℕ) × (eight_of w ≡ Some gs)
 rule_eight w (inl m) =
     let l = side_none false in
     let r = behind_few 7 m.then.rest m.then.then in
@@ -262,6 +262,6 @@ rule_eight w (inl m) =
     (e.0, ap eight_of (sym (ap (λ u. 58 ∷ u) m.then.is ∙ m.is)) ∙ e.1)
 rule_eight w (inr h) = go (groups_spelt 7 w h)
   where
-    go : Spelt 7 w → (gs : List ℕ) × (eight_of w ≡ some gs)
+    go : Spelt 7 w → (gs : List ℕ) × (eight_of w ≡ Some gs)
     go (inl s) = (s.side.numbers, eight_whole s.side s.count)
     go (inr a) = let e = eight_around a.left a.right a.count in (e.0, ap eight_of (sym a.is) ∙ e.1)

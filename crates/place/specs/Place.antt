@@ -1,6 +1,5 @@
 -- Where a strict text goes wrong (02, Req 02). A text is the list of its bytes. Assumes nothing.
-use Rattle.std.specs.Prelude.{◌≡◌, Bool, true, false, cond, List, [], ◌∷◌, ◌++◌, ℕ, zero, suc, ◌+◌, ◌≤◌, min, max, eqb, length, take, drop}
-use Rattle.std.proofs.Math.Option.{Option, some, none}
+use Rattle.std.specs.Prelude.{◌≡◌, Bool, true, false, cond, List, [], ◌∷◌, ◌++◌, ℕ, zero, suc, ◌+◌, ◌≤◌, min, max, eqb, length, take, drop, Option, Some, None}
 use Rattle.address.specs.declared.Address.{Address}
 use Rattle.address.specs.Answers.{Answer, gives}
 use Rattle.digits.specs.Numerals.{part_of, digit_count}
@@ -45,8 +44,8 @@ ends t = 0
 -- ---- IPv4
 
 abbrev pub present : Option ℕ → Bool
-present none = false
-present (some x) = true
+present None = false
+present (Some x) = true
 
 -- the length of the longest part that a text begins with, up to n bytes; 0 where there is none
 unfoldable pub part_up_to : ℕ → List ℕ → ℕ

@@ -1,5 +1,3 @@
--- CallLaws: what a read has brought, a path that is `-`, and a text that is a digit, as the code finds them. AnswerLaws: each case exactly. Claims: the
--- theorems, gathered for a reader.
-pub mod CallLaws
+-- AnswerLaws: each case of the system's answers, and of the arguments, exactly. Claims: the theorems, gathered for a reader.
 pub mod AnswerLaws
 pub mod Claims

@@ -16,7 +16,7 @@ use Rattle.range_text.proofs.Claims.{number_exactly, answered_exactly, range_or_
 use Rattle.range_lines.specs.Lines.{next_line, told_of, followed, line_report, report}
 use Rattle.range_lines.specs.ProgramForm.{Told, no_line, answered, refused, AllRanges}
 use Rattle.range_lines.proofs.LineLaws.{followed_assoc}
-use Rattle.range_lines.proofs.RoomLaws.{unwanted_note, no_note, a_note}
+use Rattle.range_lines.proofs.NoteLaws.{unwanted_note, no_note, a_note}
 
 -- the answers, whatever is told
 pub text_report : (explain : Bool) (name : List ℕ) (k : ℕ) (ls : List (List ℕ)) → (report explain name k ls).text ≡ flatten (map line_text ls)

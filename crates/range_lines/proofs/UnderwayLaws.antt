@@ -20,7 +20,7 @@ use Rattle.range_lines.specs.Lines.{Report, silence, line_report}
 use Rattle.range_lines.specs.Feeding.{pending_text, kept, closing, place_of, behind_line, Feeding, has_room, fed, Feeds}
 use Rattle.range_lines.specs.Inner.{AnswersLine, BeginsLine}
 use Rattle.range_lines.proofs.LineLaws.{or_assoc}
-use Rattle.range_lines.proofs.RoomLaws.{or_none}
+use Rattle.range_lines.proofs.NoteLaws.{or_none}
 use Rattle.range_lines.proofs.FedLaws.{told_most, room_both, fed_last, fed_full, fed_line}
 
 module _ (explain : Bool) (name : List ℕ) (s : Reader) (piece out notes : List ℕ) where

@@ -3,11 +3,12 @@
 
 ghost use Rattle.std.specs.Prelude.{◌≡◌, ◌||◌, not, [], ◌++◌, ◌+◌, ◌<◌, eqb, ltb, length};
 ghost use Rattle.output.specs.Placing.{Puts};
-ghost use Rattle.range_text.specs.RangeText.{PutsAnswer, answer_line};
+ghost use Rattle.range_text.specs.RangeText.{PutsAnswer, answer_line, told};
 ghost use Rattle.range_lines.specs.Lines.{next_line, told_of};
 ghost use Rattle.range_lines.specs.Feeding.{pending_text, kept, place_of, at_start, has_room, Feeds, closing};
 ghost use Rattle.range_lines.specs.Inner.{AnswersLine, BeginsLine};
 
+use address::Refusal;
 use digits::read::find;
 use notes::put_note;
 use range_text::{Answered, put_answer};
@@ -64,14 +65,12 @@ fn keep(pending: Pending, more: &[u8]) -> Pending
 {
     let mut bytes = pending.bytes;
     let mut len = pending.len;
-    let mut i: usize = 0;
-    while i < more.len() {
+    for &byte in more {
         if 130 <= len {
             return Pending { len: 130, bytes };
         }
-        bytes[len] = more[i];
+        bytes[len] = byte;
         len += 1;
-        i += 1;
     }
     Pending { len, bytes }
 }
@@ -93,32 +92,30 @@ fn put_line(pending: Pending, more: &[u8], out: &mut [u8], at: usize) -> Answere
 }
 
 // Puts the note on a line, if it is refused and notes are wanted.
-fn put_told(explain: bool, name: &[u8], line: u64, number: u8, notes: &mut [u8], at: usize) -> usize
-    ensures { Puts notes.old notes.new at result (told_of explain name.now line number) }
+fn put_told(
+    explain: bool,
+    name: &[u8],
+    line: u64,
+    refused: Option<Refusal>,
+    notes: &mut [u8],
+    at: usize,
+) -> usize
+    ensures { Puts notes.old notes.new at result (told_of explain name.now line (told refused)) }
 {
     if !explain {
         return at;
     }
-    if number < 1 {
+    let Some(why) = refused else {
         return at;
-    }
-    put_note(notes, at, name, line, number)
+    };
+    put_note(notes, at, name, line, u8::from(why))
 }
 
 // Whether the answer to any line, and the note on it, have room.
 fn has_room(explain: bool, name: &[u8], free: usize, spare: usize) -> bool
     ensures { result ≡ has_room explain name.now free spare }
 {
-    if free < 11176 {
-        return false;
-    }
-    if !explain {
-        return true;
-    }
-    if spare < 91 {
-        return false;
-    }
-    name.len() <= spare - 91
+    11176 <= free && (!explain || name.len() + 91 <= spare)
 }
 
 // The number of the line behind this one; the last of 64 bits stays.
@@ -128,14 +125,11 @@ fn next_line(line: u64) -> u64
     if line == u64::MAX { line } else { line + 1 }
 }
 
-// Whether a line was refused, up to one with that number.
-fn also_refused(before: bool, number: u8) -> bool
-    ensures { result ≡ (before || not (eqb number 0)) }
+// Whether a line was refused, up to one that is answered so.
+fn also_refused(before: bool, refused: Option<Refusal>) -> bool
+    ensures { result ≡ (before || not (eqb (told refused) 0)) }
 {
-    if 0 < number {
-        return true;
-    }
-    before
+    before || refused.is_some()
 }
 
 // Answers the line that is begun, ended by the bytes of `more` and a newline.
@@ -154,8 +148,8 @@ fn answer_line(
     let pending = reader.pending;
     let line = reader.line;
     let answer = put_line(pending, more, out, done.next);
-    let number = answer.number;
-    let noted = put_told(explain, name, line, number, notes, done.noted);
+    let refused = answer.refused;
+    let noted = put_told(explain, name, line, refused, notes, done.noted);
     Fed {
         reader: Reader {
             pending: begin(),
@@ -164,7 +158,7 @@ fn answer_line(
         taken: done.taken + more.len() + 1,
         next: answer.next,
         noted,
-        refused: also_refused(done.refused, number),
+        refused: also_refused(done.refused, refused),
     }
 }
 

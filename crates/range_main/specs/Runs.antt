@@ -53,7 +53,7 @@ fresh run n = record { reader = run.reader; from = 0; to = n; refused = run.refu
 -- what is done with what a read has brought
 abbrev pub AfterRead : Bool → List ℕ → Run → Got → List ℕ → Run → Type 0
 AfterRead explain name run Again input r = r ≡ run
-AfterRead explain name run Failed input r = r.end ≡ Unread
+AfterRead explain name run (Failed why) input r = r.end ≡ Unread
 AfterRead explain name run (Bytes zero) input r = OrUnwritten r (AnswersEnd explain name run r)
 AfterRead explain name run (Bytes (suc n)) input r = OrUnwritten r (AnswersPiece explain name (fresh run (suc n)) input r)
 

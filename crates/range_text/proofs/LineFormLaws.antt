@@ -1,9 +1,9 @@
 -- A line's answer and the paper's sentences: which of them a line meets, and what its answer then is. Assumes nothing.
+use Rattle.std.specs.Prelude.{Option, Some, None, ok_or}
 use mathlib.Core.Path.{◌≡◌, refl, sym, ap, ap₂, subst, ◌∙◌}
 use mathlib.Core.Logic.{◌⊎◌, inl, inr}
 use mathlib.Core.Bool.{Bool, true, false, cond, false≢true}
 use mathlib.Core.List.{List, [], ◌∷◌, ◌++◌, map}
-use mathlib.Core.Option.{Option, some, none}
 use Prim.Native.Nat.{ℕ, suc, ◌≤◌}
 use native.Mathlib.Decide.{dec_le, dec_lt, ℕ_discrete}
 use native.Mathlib.Omega.{arith}
@@ -30,7 +30,6 @@ use Rattle.address.proofs.AddressLaws.{width_follows}
 use Rattle.address.proofs.Claims.{address_below}
 use Rattle.digits.specs.Numerals.{numeral}
 use Rattle.text.specs.Strict.{strict_of, strict_answer}
-use Rattle.text.specs.Inner.{as_reading}
 use Rattle.text.proofs.StrictLaws.{strict_long, strict_read, strict_gives}
 use Rattle.text.proofs.MeaningLaws.{strict_address}
 use Rattle.blocks.specs.BlockText.{block_text}
@@ -101,9 +100,9 @@ judged t = elim (dec_le (length t) 64) [
   | no n ↦ bad TextTooLong (sym (strict_long 0 t refl (omega arith)))
 ]
   where
-    go : (o : Option Address) → strict_answer 0 t ≡ reading_answer (as_reading o) → Judged t
-    go none e = bad Malformed e
-    go (some a) e = good a e
+    go : (o : Option Address) → strict_answer 0 t ≡ reading_answer (ok_or o Malformed) → Judged t
+    go None e = bad Malformed e
+    go (Some a) e = good a e
 
 pub given_address : (t : List ℕ) (a : Address) → strict_answer 0 t ≡ gives a → IsAddress a
 given_address t a e = strict_address 0 t a (strict_gives 0 t refl a e).1
@@ -162,11 +161,11 @@ module _ {line s t : List ℕ} (w : TwoTexts line s t) where
   two_texts = sym (line_pieces line w.short (s ∷ t ∷ []) (ap (split_on 32) w.is ∙ split_separated 32 (s ∷ t ∷ []) (omega arith) (free_lacks w.before, (free_lacks w.behind, tt))))
 
   first_says : (e : Refusal) → strict_answer 0 s ≡ refuses no_address e → answer_line line ≡ refused_by (refusal_number e)
-  first_says e h = two_texts ∙ sym (first_refused (strict_answer 0 s) (strict_answer 0 t) e (refusal_number e) (sym h) refl)
+  first_says e h = two_texts ∙ sym (first_refused (strict_answer 0 s) (strict_answer 0 t) e (sym h))
 
   module _ (a : Address) (h : strict_answer 0 s ≡ gives a) where
     second_says : (e : Refusal) → strict_answer 0 t ≡ refuses no_address e → answer_line line ≡ refused_by (refusal_number e)
-    second_says e k = two_texts ∙ ap (λ r. answer_read r (strict_answer 0 t)) h ∙ sym (second_refused a (strict_answer 0 t) e (refusal_number e) (sym k) refl)
+    second_says e k = two_texts ∙ ap (λ r. answer_read r (strict_answer 0 t)) h ∙ sym (second_refused a (strict_answer 0 t) e (sym k))
 
     module _ (b : Address) (k : strict_answer 0 t ≡ gives b) where
       both_say : answer_line line ≡ answer_range a b

@@ -10,6 +10,7 @@ use borrow.Author.Tests.{eq-eqb, ne_eqb, lt-ltb, le-ltb}
 use lib.Dec.{lit<}
 use lib.ListN.{length, take, drop, length-append}
 use lib.Seq.{take_at, drop_at}
+use Rattle.std.specs.Prelude.{None}
 use Rattle.notation.specs.Pieces.{index_of, split_on}
 use Rattle.notation.proofs.PieceLaws.{split_found, split_last, split_first}
 use Rattle.notation.proofs.SliceLaws.{tail, to_end}
@@ -163,7 +164,7 @@ either_family P four six (V6 hi lo) (V6 h l) is e = six hi lo h l is
 -- the first bytes of the buffer are the records of the range: putting their lines puts its text
 pub record Written (first last : Address) (bytes : ℕ) (left : List ℕ) : Type 0 where
   pub fits : bytes ≤ length left
-  pub lines : {old new : List ℕ} {at next : ℕ} → PutsLines first (take bytes left) old new at next → PutsAnswer old new at (record { next = next; number = 0 }) (answer_range first last)
+  pub lines : {old new : List ℕ} {at next : ℕ} → PutsLines first (take bytes left) old new at next → PutsAnswer old new at (record { next = next; refused = None }) (answer_range first last)
 
 module _ (first last : Address) (is : IsAddress last) (old : List ℕ) (room : 4318 ≤ length old) where
   enough : family first ≡ family last → length (range_records first last) ≤ length old
@@ -192,13 +193,13 @@ module _ (first last : Address) (is : IsAddress last) (old : List ℕ) (room : 4
 
 -- ---- the text of two answers
 
-pub first_refused : (s t : Answer Address) (e : Refusal) (n : ℕ) → refuses no_address e ≡ s → n ≡ refusal_number e → refused_by n ≡ answer_read s t
+pub first_refused : (s t : Answer Address) (e : Refusal) → refuses no_address e ≡ s → refused_by (refusal_number e) ≡ answer_read s t
 unfolding answer_read
-first_refused s t e n h k = rw (k, ← h, nonzero e)
+first_refused s t e h = rw (← h, nonzero e)
 
-pub second_refused : (a : Address) (t : Answer Address) (e : Refusal) (n : ℕ) → refuses no_address e ≡ t → n ≡ refusal_number e → refused_by n ≡ answer_read (gives a) t
+pub second_refused : (a : Address) (t : Answer Address) (e : Refusal) → refuses no_address e ≡ t → refused_by (refusal_number e) ≡ answer_read (gives a) t
 unfolding answer_read
-second_refused a t e n h k = rw (k, ← h, nonzero e)
+second_refused a t e h = rw (← h, nonzero e)
 
 pub both_read : (a b : Address) (t : Answer Address) → gives b ≡ t → answer_range a b ≡ answer_read (gives a) t
 unfolding answer_read

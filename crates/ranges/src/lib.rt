@@ -8,7 +8,6 @@ ghost use Rattle.records.specs.Records.{blocks_writing_answer};
 ghost use Rattle.ranges.specs.Ranges.{range_records, range_answer, range_leaves};
 
 use address::{Address, Refusal};
-use records::BlocksWriting;
 use runs::{put_ipv4, put_ipv6};
 
 // Puts the records of the blocks from first to last, of one family, at the start of `out` where all of them have room. Answers how many
@@ -26,21 +25,25 @@ fn put_range(first: Address, last: Address, out: &mut [u8]) -> usize
 }
 
 // Turns the range from first to last into the fewest blocks, and writes their records to the start of `out`.
-pub fn range_blocks(first: Address, last: Address, out: &mut [u8]) -> BlocksWriting
+pub fn range_blocks(
+    first: Address,
+    last: Address,
+    out: &mut [u8],
+) -> Result<(usize, usize), Refusal>
     ensures { (blocks_writing_answer result ≡ range_answer first last out.old) × (out.new ≡ range_leaves first last out.old) }
 {
     if first.family() != last.family() {
-        return BlocksWriting::Refused(Refusal::WrongFamily);
+        return Err(Refusal::WrongFamily);
     }
-    if last.number().less(first.number()) {
-        return BlocksWriting::Refused(Refusal::FirstAboveLast);
+    if last < first {
+        return Err(Refusal::FirstAboveLast);
     }
     let bytes = put_range(first, last, out);
     if bytes == 0 {
-        return BlocksWriting::Refused(Refusal::NoRoom);
+        return Err(Refusal::NoRoom);
     }
     if first.family() == 4 {
-        return BlocksWriting::Wrote(bytes / 5, bytes);
+        return Ok((bytes / 5, bytes));
     }
-    BlocksWriting::Wrote(bytes / 17, bytes)
+    Ok((bytes / 17, bytes))
 }

@@ -1,4 +1,5 @@
 -- What is claimed of lists of records (02, Req 01). Assumes nothing.
+use Rattle.std.specs.Prelude.{Result}
 use mathlib.Core.Path.{◌≡◌, refl, sym, subst, ◌∙◌}
 use mathlib.Core.Logic.{◌⊎◌, ◌↔◌}
 use mathlib.Core.Bool.{Bool, true, false}
@@ -9,11 +10,9 @@ use Rattle.notation.specs.BigEndian.{AllBelow}
 use Rattle.cover.specs.Blocks.{Block, AllBlocks, Rising}
 use Rattle.address.specs.declared.Refusal.{Refusal}
 use Rattle.address.specs.declared.Refusal.TheVariants.{LengthTooLarge, BitsBeyondLength}
-use Rattle.address.specs.Answers.{Answer, gives, Cases, given, not_given}
+use Rattle.address.specs.Answers.{Answer, gives}
 use Rattle.address.proofs.Claims.{one_answer}
 use Rattle.records.specs.Records.{record_size, records_of, read_records}
-use Rattle.record_lists.specs.declared.ListReading.{ListReading}
-use Rattle.record_lists.specs.declared.ListReading.TheVariants.{Read, Refused}
 use Rattle.record_lists.specs.RecordLists.{is_family, family_width, record_count, list_blocks, is_rising, list_refusal, list_answer, list_reading_answer}
 use Rattle.record_lists.specs.ListForm.{Family, Records, Breaks, FirstBad, ListCall}
 use Rattle.record_lists.proofs.AnswerLaws.{family_octets}
@@ -29,15 +28,8 @@ pub list_exactly : (f : ℕ) (bytes : List ℕ) → AllBelow 256 bytes → (r : 
 list_exactly f bytes small r = (λ e. subst (ListCall f bytes) e (form.answers_call f bytes small), form.call_answers f bytes)
 
 -- A promise about the paper's answer fixes the code's answer.
-pub one_list_reading : (r s : ListReading) → list_reading_answer r ≡ list_reading_answer s → r ≡ s
-one_list_reading r s = one_answer value Refused (0, false) list_reading_answer (λ p. refl) (λ e. refl) r s (cases r) (cases s)
-  where
-    value : ℕ × Bool → ListReading
-    value p = Read p.0 p.1
-
-    cases : (x : ListReading) → Cases value Refused x
-    cases (Read n rises) = given (n, rises)
-    cases (Refused e) = not_given e
+pub one_list_reading : (r s : Result (ℕ × Bool) Refusal) → list_reading_answer r ≡ list_reading_answer s → r ≡ s
+one_list_reading = one_answer (0, false)
 
 -- ---- families
 

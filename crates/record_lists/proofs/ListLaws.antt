@@ -6,7 +6,7 @@ use mathlib.Core.List.{List, [], ◌∷◌}
 use Prim.Native.Nat.{ℕ, suc, ◌+◌, ◌-◌, ◌*◌, ◌%◌, ◌≤◌, ◌<◌}
 use native.Mathlib.Nat.{mul_comm, mul-suc, suc-mul, zero-mul, mul-le-mul_left}
 use native.Mathlib.Omega.{arith}
-use borrow.Author.Tests.{le-leb, lt-leb}
+use borrow.Author.Tests.{le-leb}
 use lib.Dec.{leb, ltb, eqb}
 use lib.ListN.{length, take, drop, length-drop}
 use lib.Seq.{length-take-le, drop-drop}
@@ -59,14 +59,6 @@ pub rises_start : (bs : List Block) → rises_from 0 bs ≡ is_rising bs
 unfolding rises_from is_rising
 rises_start [] = refl
 rises_start (b ∷ bs) = rw (le-leb 0 b.address (omega arith)) (rises_behind b bs)
-
--- an address below the last, and one that is not
-pub falls_false : (a b : ℕ) (p : Bool) → b < a → false ≡ (p && leb a b)
-falls_false a b true h = sym (lt-leb a b h)
-falls_false a b false h = refl
-
-pub keeps : (a b : ℕ) (p : Bool) → a ≤ b → p ≡ (p && leb a b)
-keeps a b p h = rw (le-leb a b h) (sym (and-true p))
 
 -- ---- one record after the other
 

@@ -1,9 +1,9 @@
 -- One record as the code judges it. Assumes nothing.
+use Rattle.std.specs.Prelude.{Some}
 use mathlib.Core.Path.{◌≡◌, refl, sym, ap, ap₂, ◌∙◌}
 use mathlib.Core.Logic.{inl, inr}
 use mathlib.Core.Bool.{Bool, cond}
 use mathlib.Core.List.{List, [], ◌∷◌}
-use mathlib.Core.Option.{some}
 use Prim.Native.Nat.{ℕ, ◌+◌, ◌*◌, ◌/◌, ◌^◌, ◌≤◌, ◌<◌}
 use native.Mathlib.Omega.{arith}
 use borrow.Author.Tests.{eq-eqb}
@@ -30,11 +30,11 @@ two_rules p q = refl
 
 -- the block value of a record
 record Value (bs : List ℕ) (v : Block) : Type 0 where
-  is : record_block bs ≡ some v
+  is : record_block bs ≡ Some v
   same : numbered v ≡ read_record (size_width (length bs)) bs
   wide : width v.address ≡ size_width (length bs)
 
-fields_zero : (v : Block) → (read_answer precedence no_block (block_reasons v) (some v)).number ≡ 0 → (read_answer precedence no_block (block_reasons v) (some v)).fields ≡ v
+fields_zero : (v : Block) → (read_answer precedence no_block (block_reasons v) (Some v)).number ≡ 0 → (read_answer precedence no_block (block_reasons v) (Some v)).fields ≡ v
 unfolding read_answer
 fields_zero v z = rw (eq-eqb _ 0 z)
 

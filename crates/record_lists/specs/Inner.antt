@@ -1,11 +1,11 @@
 -- Definitions for the contracts of private functions. Assumes nothing.
-use Rattle.std.specs.Prelude.{◌≡◌, ◌⊎◌, Bool, true, false, ◌&&◌, List, [], ◌∷◌, ℕ, ◌-◌, ◌*◌, leb}
+use Rattle.address.specs.declared.Refusal.{Refusal}
+use Rattle.std.specs.Prelude.{◌≡◌, ◌⊎◌, Bool, true, false, ◌&&◌, List, [], ◌∷◌, ℕ, ◌-◌, ◌*◌, leb, Ok, Err, Result}
+use Rattle.wide.specs.declared.Wide.{Wide}
 use Rattle.wide.specs.Value.{value}
 use Rattle.cover.specs.Blocks.{Block}
 use Rattle.address.specs.Answers.{Answer, answer, first_of, refusal_number}
 use Rattle.records.specs.Records.{read_records}
-use Rattle.record_lists.specs.declared.Judged.{Judged}
-use Rattle.record_lists.specs.declared.Judged.TheVariants.{Good, Bad}
 use Rattle.record_lists.specs.RecordLists.{record_reasons, records_reasons, is_rising}
 
 -- the size of a record of IPv4 or of IPv6, and the width of its addresses
@@ -16,9 +16,9 @@ abbrev pub size_width : ℕ → ℕ
 size_width size = 8 * (size - 1)
 
 -- one record: its address where it is a block, or the number of the rule that it breaks
-abbrev pub JudgedAs : ℕ → Block → Judged → Type 0
-JudgedAs W b (Good a) = (first_of (record_reasons W b) ≡ 0) × (value a ≡ b.address)
-JudgedAs W b (Bad e) = first_of (record_reasons W b) ≡ refusal_number e
+abbrev pub JudgedAs : ℕ → Block → Result Wide Refusal → Type 0
+JudgedAs W b (Ok a) = (first_of (record_reasons W b) ≡ 0) × (value a ≡ b.address)
+JudgedAs W b (Err e) = first_of (record_reasons W b) ≡ refusal_number e
 
 -- whether a list rises that has the address a before it
 unfoldable pub rises_from : ℕ → List Block → Bool

@@ -1,10 +1,9 @@
 -- Lists of records of one family (02, Req 01): what they hold, and why a call on them says no. Assumes nothing.
-use Rattle.std.specs.Prelude.{Bool, true, false, cond, ◌&&◌, ◌||◌, not, List, [], ◌∷◌, ◌++◌, ℕ, ◌/◌, ◌%◌, leb, ltb, eqb, length}
+use Rattle.address.specs.declared.Refusal.{Refusal}
+use Rattle.std.specs.Prelude.{Bool, true, false, cond, ◌&&◌, ◌||◌, not, List, [], ◌∷◌, ◌++◌, ℕ, ◌/◌, ◌%◌, leb, ltb, eqb, length, Result}
 use Rattle.cover.specs.Blocks.{Block, size}
-use Rattle.address.specs.Answers.{Answer, answer, gives, refuses, first_of}
+use Rattle.address.specs.Answers.{result_answer, Answer, answer, first_of}
 use Rattle.records.specs.Records.{record_size, read_records}
-use Rattle.record_lists.specs.declared.ListReading.{ListReading}
-use Rattle.record_lists.specs.declared.ListReading.TheVariants.{Read, Refused}
 
 -- ---- families
 
@@ -66,6 +65,5 @@ unfolding list_refusal is_rising
 list_answer f bytes = answer (0, false) (list_refusal f bytes) (record_count f bytes, is_rising (list_blocks f bytes))
 
 -- the code's answer in the paper's terms
-abbrev pub list_reading_answer : ListReading → Answer (ℕ × Bool)
-list_reading_answer (Read n rises) = gives (n, rises)
-list_reading_answer (Refused e) = refuses (0, false) e
+abbrev pub list_reading_answer : Result (ℕ × Bool) Refusal → Answer (ℕ × Bool)
+list_reading_answer r = result_answer (0, false) r

@@ -1,7 +1,7 @@
 -- Bytes read as a record: the form that they have, and what reading answers. Assumes nothing.
+use Rattle.std.specs.Prelude.{Some}
 use mathlib.Core.Path.{◌≡◌, refl, sym, ap, subst, ◌∙◌}
 use mathlib.Core.List.{List, [], ◌∷◌, ◌++◌}
-use mathlib.Core.Option.{some}
 use Prim.Native.Nat.{ℕ, zero, suc, ◌-◌, ◌%◌, ◌^◌}
 use native.Mathlib.Decide.{dec_le, ℕ_discrete}
 use native.Mathlib.Omega.{arith}
@@ -26,7 +26,7 @@ use Rattle.records.proofs.RecordLaws.{layout, value_back, answer_block, answer_n
 
 -- ---- the form
 
-pub form_reads : {bs : List ℕ} {b : Block} → RecordForm bs b → record_block bs ≡ some b
+pub form_reads : {bs : List ℕ} {b : Block} → RecordForm bs b → record_block bs ≡ Some b
 form_reads (address_length {b} is) = ap record_block (sym (layout b)) ∙ value_back b is
 
 -- the last byte behind the others
@@ -64,7 +64,7 @@ module _ (bs : List ℕ) (small : AllBelow 256 bs) where
 -- ---- the call
 
 module _ (bs : List ℕ) where
-  checked : {b : Block} {r : Answer Block} → RecordForm bs b → r ≡ read_answer precedence no_block (block_reasons b) (some b) → r ≡ record_answer bs
+  checked : {b : Block} {r : Answer Block} → RecordForm bs b → r ≡ read_answer precedence no_block (block_reasons b) (Some b) → r ≡ record_answer bs
   checked {b} f e = e ∙ sym (answer_block bs b (form_reads f))
 
   pub call_answers : {r : Answer Block} → RecordCall bs r → record_answer bs ≡ r

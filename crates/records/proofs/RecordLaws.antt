@@ -1,8 +1,8 @@
 -- A record as the code puts it and reads it, and records read back. Assumes nothing.
+use Rattle.std.specs.Prelude.{Some, None}
 use mathlib.Core.Path.{◌≡◌, refl, sym, ap, ap₂, ◌∙◌}
 use mathlib.Core.Logic.{◌⊎◌, inl, inr}
 use mathlib.Core.List.{List, [], ◌∷◌, ◌++◌, append_assoc, append-nil}
-use mathlib.Core.Option.{some, none}
 use Prim.Native.Nat.{ℕ, suc, ◌+◌, ◌-◌, ◌*◌, ◌/◌, ◌^◌, ◌≤◌, ◌<◌}
 use native.Mathlib.Nat.{mul-suc, le_of_eq}
 use native.Mathlib.Decide.{ℕ_discrete, dec_le}
@@ -73,11 +73,11 @@ total (n ∷ ns) = n + total ns
 -- parts that all have room are the bytes
 parts_whole : (ns bytes old : List ℕ) → total ns ≡ length bytes → length bytes ≤ length old → parts_leave ns bytes old ≡ bytes ++ drop (length bytes) old
 unfolding parts_leave
-parts_whole [] bytes old e h = ap (λ r. r ++ drop (length r) old) (sym (none bytes (sym e)))
+parts_whole [] bytes old e h = ap (λ r. r ++ drop (length r) old) (sym (None bytes (sym e)))
   where
-    none : (l : List ℕ) → length l ≡ 0 → l ≡ []
-    none [] e = refl
-    none (x ∷ l) e = absurd (omega arith)
+    None : (l : List ℕ) → length l ≡ 0 → l ≡ []
+    None [] e = refl
+    None (x ∷ l) e = absurd (omega arith)
 parts_whole (n ∷ ns) bytes old e h =
     let front = length-take-le n bytes (omega arith) in
     let more = drop n bytes in
@@ -234,16 +234,16 @@ module _ (bs : List ℕ) where
   front_answer : (n : ℕ) → length bs ≡ suc n → (r : Answer Address) → r ≡ octets_answer (take (length bs - 1) bs) → r ≡ octets_answer (take n bs)
   front_answer n l r e = let m : length bs - 1 ≡ n = omega arith in e ∙ ap (λ (k : ℕ). octets_answer (take k bs)) m
 
-  record_5 : length bs ≡ 5 → record_block bs ≡ some (last_length (V4 (number_of 256 (take 4 bs))))
+  record_5 : length bs ≡ 5 → record_block bs ≡ Some (last_length (V4 (number_of 256 (take 4 bs))))
   unfolding record_block
   record_5 l = rw l
 
-  record_17 : length bs ≡ 17 → record_block bs ≡ some (last_length (halves 256 8 (take 16 bs)))
+  record_17 : length bs ≡ 17 → record_block bs ≡ Some (last_length (halves 256 8 (take 16 bs)))
   unfolding record_block
   record_17 l = rw l
 
   -- other bytes are no record
-  pub record_other : ¬ (length bs ≡ 5) → ¬ (length bs ≡ 17) → record_block bs ≡ none
+  pub record_other : ¬ (length bs ≡ 5) → ¬ (length bs ≡ 17) → record_block bs ≡ None
   unfolding record_block
   record_other n m = rw (ne_eqb (length bs) 5 n, ne_eqb (length bs) 17 m)
 
@@ -254,18 +254,18 @@ module _ (bs : List ℕ) where
 
   module _ (h : 0 < length bs) where
     -- octets that are an address, before the last byte
-    pub record_read : (a : Address) → gives a ≡ octets_answer (take (length bs - 1) bs) → record_block bs ≡ some (last_length a)
+    pub record_read : (a : Address) → gives a ≡ octets_answer (take (length bs - 1) bs) → record_block bs ≡ Some (last_length a)
     record_read a e = elim (ℕ_discrete (length bs) 5) [
-      | yes l ↦ record_5 l ∙ ap (λ x. some (last_length x)) (sym (ap (λ r. r.fields) (front_answer 4 l (gives a) e ∙ answer_4 (take 4 bs) (front_length 4 l))))
+      | yes l ↦ record_5 l ∙ ap (λ x. Some (last_length x)) (sym (ap (λ r. r.fields) (front_answer 4 l (gives a) e ∙ answer_4 (take 4 bs) (front_length 4 l))))
       | no n ↦ elim (ℕ_discrete (length bs) 17) [
-        | yes l ↦ record_17 l ∙ ap (λ x. some (last_length x)) (sym (ap (λ r. r.fields) (front_answer 16 l (gives a) e ∙ answer_16 (take 16 bs) (front_length 16 l))))
+        | yes l ↦ record_17 l ∙ ap (λ x. Some (last_length x)) (sym (ap (λ r. r.fields) (front_answer 16 l (gives a) e ∙ answer_16 (take 16 bs) (front_length 16 l))))
         | no m ↦ let z : ◌≡◌ {A = ℕ} 0 2 = ap (λ r. r.number) (e ∙ other_answer h n m) in absurd (omega arith)
       ]
     ]
 
-    pub record_none : (r : Refusal) → refuses no_address r ≡ octets_answer (take (length bs - 1) bs) → record_block bs ≡ none
+    pub record_none : (r : Refusal) → refuses no_address r ≡ octets_answer (take (length bs - 1) bs) → record_block bs ≡ None
     record_none r e =
-        let given : (a : Address) → refuses no_address r ≡ gives a → record_block bs ≡ none = λ a q. absurd (let z = ap (λ x. x.number) q in omega (arith, number_pos r)) in
+        let given : (a : Address) → refuses no_address r ≡ gives a → record_block bs ≡ None = λ a q. absurd (let z = ap (λ x. x.number) q in omega (arith, number_pos r)) in
         elim (ℕ_discrete (length bs) 5) [
           | yes l ↦ given (V4 (number_of 256 (take 4 bs))) (front_answer 4 l (refuses no_address r) e ∙ answer_4 (take 4 bs) (front_length 4 l))
           | no n ↦ elim (ℕ_discrete (length bs) 17) [
@@ -276,21 +276,21 @@ module _ (bs : List ℕ) where
 
   -- ---- the answer
 
-  pub answer_block : (b : Block) → record_block bs ≡ some b → record_answer bs ≡ read_answer precedence no_block (block_reasons b) (some b)
+  pub answer_block : (b : Block) → record_block bs ≡ Some b → record_answer bs ≡ read_answer precedence no_block (block_reasons b) (Some b)
   unfolding record_answer
   answer_block b e = rw e
 
-  pub answer_none : record_block bs ≡ none → refuses no_block Malformed ≡ record_answer bs
+  pub answer_none : record_block bs ≡ None → refuses no_block Malformed ≡ record_answer bs
   unfolding record_answer
   answer_none e = rw e
 
-pub record_empty : (bs : List ℕ) → length bs ≡ 0 → record_block bs ≡ none
+pub record_empty : (bs : List ℕ) → length bs ≡ 0 → record_block bs ≡ None
 unfolding record_block
 record_empty bs l = rw l
 
 -- ---- the record of a block value, read
 
-pub value_back : (b : Block) → IsAddress b.address → record_block (block_record b) ≡ some b
+pub value_back : (b : Block) → IsAddress b.address → record_block (block_record b) ≡ Some b
 unfolding octets record_of
 value_back b h =
     let a = b.address in
@@ -299,7 +299,7 @@ value_back b h =
     let at : length bs - 1 ≡ width a / 8 = omega arith in
     let front : take (length bs - 1) bs ≡ octets a = ap (λ (n : ℕ). take n bs) at ∙ take_at (octets a) (b.length ∷ []) (width a / 8) (octets_length a) in
     let last : get_or bs (length bs - 1) 0 ≡ b.length = ap (λ (n : ℕ). get_or bs n 0) at ∙ get_or_at (octets a) b.length [] 0 (width a / 8) (octets_length a) in
-    record_read bs (omega arith) a (sym (ap octets_answer front ∙ octets_read_back a h)) ∙ ap (λ (n : ℕ). some (record { address = a; length = n })) last
+    record_read bs (omega arith) a (sym (ap octets_answer front ∙ octets_read_back a h)) ∙ ap (λ (n : ℕ). Some (record { address = a; length = n })) last
 
 pub answer_back : (b : Block) → IsAddress b.address → block_refusal b ≡ 0 → record_answer (block_record b) ≡ gives b
 answer_back b h v = answer_block (block_record b) b (value_back b h) ∙ sym (read_valid b v)

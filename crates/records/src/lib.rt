@@ -7,15 +7,8 @@ ghost use Rattle.address.specs.Answers.{block_answer, writing_answer, write_answ
 ghost use Rattle.address.specs.Blocks.{block_refusal};
 ghost use Rattle.records.specs.Records.{record_size, block_record, part_sizes, parts_leave, record_answer};
 
-use address::{Address, Block, BlockReading, Check, Reading, Refusal, Writing};
+use address::{Address, Block, Refusal};
 use octets::{put_eight, put_four, read_octets};
-
-// What a writer of blocks answers: the number of blocks and of bytes.
-#[derive(Clone, Copy)]
-pub enum BlocksWriting {
-    Wrote(usize, usize),
-    Refused(Refusal),
-}
 
 // How many bytes the record of a block with that address has.
 pub fn record_size(address: Address) -> usize
@@ -67,33 +60,28 @@ pub fn fill_record(block: Block, out: &mut [u8])
 }
 
 // Writes the record of a block to the start of `out`, where the block keeps both rules and there is room for it.
-pub fn write_record(block: Block, out: &mut [u8]) -> Writing
+pub fn write_record(block: Block, out: &mut [u8]) -> Result<usize, Refusal>
     ensures { (writing_answer result ≡ write_answer (block_refusal block) (block_record block) out.old) × (out.new ≡ write_leaves (block_refusal block) (block_record block) out.old) }
 {
-    match block.check() {
-        Check::Refused(e) => Writing::Refused(e),
-        Check::Valid => {
-            let address = block.address;
-            let size = record_size(address);
-            if out.len() < size {
-                return Writing::Refused(Refusal::NoRoom);
-            }
-            fill_record(block, out);
-            Writing::Wrote(size)
-        }
+    block.check()?;
+    let size = record_size(block.address);
+    if out.len() < size {
+        return Err(Refusal::NoRoom);
     }
+    fill_record(block, out);
+    Ok(size)
 }
 
 // The block of one record.
-pub fn read_record(bytes: &[u8]) -> BlockReading
+pub fn read_record(bytes: &[u8]) -> Result<Block, Refusal>
     ensures { block_answer result ≡ record_answer bytes.now }
 {
     let n = bytes.len();
     if n == 0 {
-        return BlockReading::Refused(Refusal::Malformed);
+        return Err(Refusal::Malformed);
     }
-    let Reading::Read(address) = read_octets(&bytes[..n - 1]) else {
-        return BlockReading::Refused(Refusal::Malformed);
+    let Ok(address) = read_octets(&bytes[..n - 1]) else {
+        return Err(Refusal::Malformed);
     };
     let length = bytes[n - 1];
     let block = Block { address, length };

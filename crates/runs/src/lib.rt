@@ -229,14 +229,14 @@ fn next_run(first: Wide, last: Wide) -> Run
 fn is_all(first: Wide, last: Wide) -> bool
     ensures { result ≡ (value last - value first == 2 ^ 128 - 1) }
 {
-    last.saturating_sub(first).same(Wide::ones(128))
+    last.saturating_sub(first) == Wide::ones(128)
 }
 
 // Whether a run that reaches so far is the last of the range.
 fn is_last(reached: Wide, last: Wide) -> bool
     ensures { result ≡ not (nat_lt (value reached) (value last)) }
 {
-    !reached.less(last)
+    last <= reached
 }
 
 // How many blocks a range of IPv6 addresses turns into, run after run.
@@ -326,7 +326,7 @@ pub fn put_ipv4(first: u32, last: u32, out: &mut [u8], at: usize) -> usize
 pub fn count_ipv6(first: Wide, last: Wide) -> usize
     ensures { result ≡ length (range_blocks 128 (value first) (value last)) }
 {
-    if last.less(first) {
+    if last < first {
         return 0;
     }
     count_runs(first, last)
@@ -345,7 +345,7 @@ fn fits_ipv6(first: Wide, last: Wide, room: usize) -> bool
 pub fn put_ipv6(first: Wide, last: Wide, out: &mut [u8], at: usize) -> usize
     ensures { PutsAll out.old out.new at result (records_of 128 (range_blocks 128 (value first) (value last))) }
 {
-    if last.less(first) {
+    if last < first {
         return at;
     }
     if !fits_ipv6(first, last, room_from(out.len(), at)) {

@@ -15,11 +15,7 @@ use Rattle.stable_sort.proofs.StableLaws.{from_less, from_zero, from_append, wit
 use Rattle.sheet_lines.specs.declared.Entry.{Entry}
 use Rattle.sheet_answers.specs.Sheets.{place, entry_place, sorted, AllEntries}
 use Rattle.sheet_answers.proofs.ArrangedLaws.{perm_all}
-use Rattle.sheet.specs.Inner.{of_family}
-
--- the number of an entry's address, whatever its family
-abbrev pub entry_number : Entry → ℕ
-entry_number e = number e.address
+use Rattle.sheet.specs.Inner.{entry_number, of_family}
 
 abbrev entry_family : Entry → ℕ
 entry_family e = family e.address

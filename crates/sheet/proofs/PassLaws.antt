@@ -1,43 +1,27 @@
 -- The lines of a sheet counted, and read into rows, one after the other. Assumes nothing.
+use Rattle.std.specs.Prelude.{Option, Some, None, option_map}
 use mathlib.Core.Path.{◌≡◌, refl, sym, ap, ◌∙◌}
 use mathlib.Core.Logic.{◌⊎◌, inl, inr}
 use mathlib.Core.Bool.{Bool, true, false, cond}
-use mathlib.Core.List.{List, [], ◌∷◌, ◌++◌, map, map-append, append-nil, append_assoc}
-use mathlib.Core.Option
-use mathlib.Core.Option.{Option, some, none}
-use Prim.Native.Nat.{ℕ, zero, suc, ◌+◌, ◌*◌, ◌^◌, ◌≤◌, ◌<◌}
+use mathlib.Core.List.{List, [], ◌∷◌, ◌++◌, append-nil, append_assoc}
+use Prim.Native.Nat.{ℕ, ◌+◌, ◌≤◌, ◌<◌}
 use native.Mathlib.Numerals.{add-one}
 use native.Mathlib.Decide.{dec_lt}
 use native.Mathlib.Omega.{arith}
 use borrow.Author.Tests.{lt-ltb, ltb-true}
 use lib.Dec.{ltb}
-use lib.ListN.{length, get_or, set, take}
+use lib.ListN.{length, set, take}
 use lib.Seq.{take-suc-set}
 use Rattle.notation.specs.Pieces.{index_of}
 use Rattle.notation.proofs.OptionLaws.{impossible}
 use Rattle.notation.proofs.SliceLaws.{tail, to_end_less, none_left}
-use Rattle.address.specs.Addresses.{number}
-use Rattle.stable_sort.specs.Indices.{up_to}
 use Rattle.sheet_lines.specs.declared.Entry.{Entry}
-use Rattle.sheet_lines.specs.declared.LineReading.TheVariants.{Line}
-use Rattle.sheet_lines.specs.Lines.{line_entry, as_line}
-use Rattle.sheet_lines.proofs.EntryLaws.{line_is, line_says}
+use Rattle.sheet_lines.specs.Lines.{line_entry}
+use Rattle.sheet_lines.proofs.EntryLaws.{line_says}
 use Rattle.sheet_answers.specs.Sheets.{before, sheet_of, sheet_lines}
 use Rattle.sheet_answers.specs.SheetAnswers.{most_lines}
 use Rattle.sheet_answers.proofs.LineLaws.{found_entries, found_lines, last_entries, last_lines, no_entries, no_lines}
-use Rattle.sheet.specs.Inner.{row_entry, rows_of, Keyed, HasRow, Stored, finished_entry, ReadsRows}
-use Rattle.sheet.specs.declared.Rows.TheVariants.{Count}
-use Rattle.sheet.proofs.RowLaws.{other_row, this_row}
-
--- ---- the indices, as they come
-
-pub number_start : take 0 [] ≡ up_to 0
-unfolding up_to
-number_start = refl
-
-pub number_on : (l : List ℕ) (i : ℕ) → take i l ≡ up_to i → i < length l → take (i + 1) (set l i i) ≡ up_to (i + 1)
-unfolding up_to
-number_on l i e h = rw add-one (take-suc-set l i i h ∙ ap (λ k. k ++ i ∷ []) e)
+use Rattle.sheet.specs.Inner.{finished_entry, ReadsRows}
 
 -- ---- the lines counted
 
@@ -66,60 +50,40 @@ module _ {t rest : List ℕ} {count : ℕ} (c : Counted t rest count) where
 -- ---- the lines read
 
 -- a line that is read is finished
-pub finished_says : (t : List ℕ) (i : ℕ) (e : Entry) → Line e ≡ as_line (finished_entry t i) → (i < length t) × (line_entry (take i t) ≡ some e)
+pub finished_says : (t : List ℕ) (i : ℕ) (e : Entry) → Some e ≡ (finished_entry t i) → (i < length t) × (line_entry (take i t) ≡ Some e)
 finished_says t i e h = go (ltb i (length t)) refl (line_says (finished_entry t i) e h)
   where
-    go : (b : Bool) → ltb i (length t) ≡ b → cond b (line_entry (take i t)) none ≡ some e → (i < length t) × (line_entry (take i t) ≡ some e)
+    go : (b : Bool) → ltb i (length t) ≡ b → cond b (line_entry (take i t)) None ≡ Some e → (i < length t) × (line_entry (take i t) ≡ Some e)
     go true q k = (ltb-true i (length t) q, k)
     go false q k = impossible k
 
 -- entries before those that are read of the rest
 abbrev ahead : List Entry → Option (List Entry) → Option (List Entry)
-ahead es o = Option.map (λ fs. es ++ fs) o
+ahead es o = option_map (λ fs. es ++ fs) o
 
 -- the first n rows have the entries of the lines before the rest
-pub record RowsRead (t rest hi lo families readings : List ℕ) (n : ℕ) : Type 0 where
+pub record RowsRead (t rest : List ℕ) (rows : List Entry) (n : ℕ) : Type 0 where
   pub counted : Counted t rest n
   pub few : n ≤ most_lines
-  pub entries : sheet_of t ≡ ahead (rows_of hi lo families readings n) (sheet_of rest)
-  pub keyed : Keyed hi lo families readings n
+  pub entries : sheet_of t ≡ ahead (take n rows) (sheet_of rest)
 
-pub read_start : (t hi lo families readings : List ℕ) → RowsRead t t hi lo families readings 0
-unfolding up_to
-read_start t hi lo families readings =
-    record { counted = count_start t; few = omega arith; entries = same (sheet_of t); keyed = λ i h. absurd (omega arith) }
+pub read_start : (t : List ℕ) (rows : List Entry) → RowsRead t t rows 0
+read_start t rows = record { counted = count_start t; few = omega arith; entries = same (sheet_of t) }
   where
     same : (o : Option (List Entry)) → o ≡ ahead [] o
-    same none = refl
-    same (some fs) = refl
+    same None = refl
+    same (Some fs) = refl
 
--- rows that are the same up to n have the same entries
-rows_same : (f g : ℕ → Entry) (n : ℕ) → ((i : ℕ) → i < n → f i ≡ g i) → map f (up_to n) ≡ map g (up_to n)
-unfolding up_to
-rows_same f g zero h = refl
-rows_same f g (suc n) h =
-    map-append f (up_to n) (n ∷ []) ∙ ap (λ l. l ++ f n ∷ []) (rows_same f g n (λ i l. h i (omega arith))) ∙ ap (λ e. map g (up_to n) ++ e ∷ []) (h n (omega arith))
-    ∙ sym (map-append g (up_to n) (n ∷ []))
+ahead_more : (es : List Entry) (e : Entry) (o : Option (List Entry)) → ahead es (before (Some e) o) ≡ ahead (es ++ e ∷ []) o
+ahead_more es e None = refl
+ahead_more es e (Some fs) = ap Some (sym (append_assoc es (e ∷ []) fs))
 
--- one row more
-row_more : (f g : ℕ → Entry) (n : ℕ) (e : Entry) → ((i : ℕ) → i < n → f i ≡ g i) → f n ≡ e → map f (up_to (n + 1)) ≡ map g (up_to n) ++ e ∷ []
-unfolding up_to
-row_more f g n e h is =
-    ap (λ (k : ℕ). map f (up_to k)) (add-one n)
-    ∙ map-append f (up_to n) (n ∷ [])
-    ∙ ap (λ l. l ++ f n ∷ []) (rows_same f g n h)
-    ∙ ap (λ x. map g (up_to n) ++ x ∷ []) is
-
-ahead_more : (es : List Entry) (e : Entry) (o : Option (List Entry)) → ahead es (before (some e) o) ≡ ahead (es ++ e ∷ []) o
-ahead_more es e none = refl
-ahead_more es e (some fs) = ap some (sym (append_assoc es (e ∷ []) fs))
-
-module _ {t rest hi lo families readings : List ℕ} {n : ℕ} (r : RowsRead t rest hi lo families readings n) where
+module _ {t rest : List ℕ} {rows : List Entry} {n : ℕ} (r : RowsRead t rest rows n) where
   abbrev Fails : Type 0
-  Fails = (sheet_of t ≡ none) ⊎ (most_lines < length (sheet_lines t))
+  Fails = (sheet_of t ≡ None) ⊎ (most_lines < length (sheet_lines t))
 
-  no_entry_lem : sheet_of rest ≡ none → Fails
-  no_entry_lem e = inl (r.entries ∙ ap (ahead (rows_of hi lo families readings n)) e)
+  no_entry_lem : sheet_of rest ≡ None → Fails
+  no_entry_lem e = inl (r.entries ∙ ap (ahead (take n rows)) e)
 
   -- there is a line too many
   pub read_many : 0 < length rest → most_lines ≤ n → Fails
@@ -133,41 +97,28 @@ module _ {t rest hi lo families readings : List ℕ} {n : ℕ} (r : RowsRead t r
 
   module _ (i : ℕ) (at : i ≡ index_of 10 rest) where
     -- the line is not finished, or is malformed
-    pub read_bad : 0 < length rest → finished_entry rest i ≡ none → Fails
+    pub read_bad : 0 < length rest → finished_entry rest i ≡ None → Fails
     read_bad p e = elim (dec_lt i (length rest)) [
       | yes h ↦
-          let gone : line_entry (take i rest) ≡ none = sym (ap (λ b. cond b (line_entry (take i rest)) none) (lt-ltb i (length rest) h)) ∙ e in
+          let gone : line_entry (take i rest) ≡ None = sym (ap (λ b. cond b (line_entry (take i rest)) None) (lt-ltb i (length rest) h)) ∙ e in
           no_entry_lem (found_entries rest i at h ∙ ap (λ o. before o (sheet_of (tail (i + 1) rest))) gone)
       | no m ↦ no_entry_lem (last_entries rest i at p (omega arith))
     ]
 
-    module _ (h : i < length rest) where
-      -- a line more
-      pub read_on : (e : Entry) → line_entry (take i rest) ≡ some e → n < most_lines → HasRow hi lo families readings n → {hi' lo' families' readings' : List ℕ}
-          → Stored hi lo families readings n e hi' lo' families' readings' → RowsRead t (tail (i + 1) rest) hi' lo' families' readings' (n + 1)
-      read_on e is room row {hi'} {lo'} {families'} {readings'} s =
-          let this = this_row s row (line_is (take i rest) e is) in
-          let other : (j : ℕ) → j < n → ¬ (j ≡ n) = λ j l z. omega arith in
-          let rows = row_more (row_entry hi' lo' families' readings') (row_entry hi lo families readings) n e (λ j l. (other_row s j (other j l)).0) this.0 in
-          record {
-            counted = count_on r.counted i at h;
-            few = omega arith;
-            entries = r.entries
-                ∙ ap (ahead (rows_of hi lo families readings n)) (found_entries rest i at h ∙ ap (λ o. before o (sheet_of (tail (i + 1) rest))) is)
-                ∙ ahead_more (rows_of hi lo families readings n) e (sheet_of (tail (i + 1) rest))
-                ∙ ap (λ es. ahead es (sheet_of (tail (i + 1) rest))) (sym rows);
-            keyed = λ j l. key j l this.0 this.1 (dec_lt j n);
-          }
-        where
-          key : (j : ℕ) → j < n + 1 → row_entry hi' lo' families' readings' n ≡ e → get_or hi' n 0 * 2 ^ 64 + get_or lo' n 0 ≡ number e.address → Dec (j < n)
-              → get_or hi' j 0 * 2 ^ 64 + get_or lo' j 0 ≡ number (row_entry hi' lo' families' readings' j).address
-          key j l is k (yes m) =
-              let o = other_row s j (λ z. omega arith) in
-              o.1 ∙ r.keyed j m ∙ ap (λ x. number x.address) (sym o.0)
-          key j l is k (no m) = let here : j ≡ n = omega arith in rw here (k ∙ ap (λ x. number x.address) (sym is))
+    -- a line more
+    pub read_on : i < length rest → (e : Entry) → line_entry (take i rest) ≡ Some e → n < most_lines → n < length rows → RowsRead t (tail (i + 1) rest) (set rows n e) (n + 1)
+    read_on h e is room row =
+        record {
+          counted = count_on r.counted i at h;
+          few = omega arith;
+          entries = r.entries
+              ∙ ap (ahead (take n rows)) (found_entries rest i at h ∙ ap (λ o. before o (sheet_of (tail (i + 1) rest))) is)
+              ∙ ahead_more (take n rows) e (sheet_of (tail (i + 1) rest))
+              ∙ ap (λ es. ahead es (sheet_of (tail (i + 1) rest))) (sym (ap (λ (k : ℕ). take k (set rows n e)) (add-one n) ∙ take-suc-set rows n e row));
+        }
 
   -- all are read
-  pub read_done : length rest ≤ 0 → ReadsRows t hi lo families readings (Count n)
+  pub read_done : length rest ≤ 0 → ReadsRows t rows (Some n)
   read_done h =
-      let empty : sheet_of rest ≡ some [] = ap sheet_of (sym (none_left rest h)) ∙ no_entries in
-      (r.entries ∙ ap (ahead (rows_of hi lo families readings n)) empty ∙ ap some (append-nil (rows_of hi lo families readings n)), r.few, r.keyed)
+      let empty : sheet_of rest ≡ Some [] = ap sheet_of (sym (none_left rest h)) ∙ no_entries in
+      (r.entries ∙ ap (ahead (take n rows)) empty ∙ ap Some (append-nil (take n rows)), r.few)

@@ -1,10 +1,9 @@
--- Rows put in an order, one after the other. Assumes nothing.
+-- Rows put, one after the other. Assumes nothing.
 use mathlib.Core.Path.{◌≡◌, refl, sym, ap, ◌∙◌, subst}
 use mathlib.Core.Bool.{Bool, true, false, cond}
-use mathlib.Core.List.{List, [], ◌∷◌, ◌++◌, map, append-nil, append_assoc}
+use mathlib.Core.List.{List, [], ◌∷◌, ◌++◌, append-nil, append_assoc}
 use Prim.Native.Nat.{ℕ, ◌+◌, ◌≤◌, ◌<◌}
 use native.Mathlib.Numerals.{add-one}
-use native.Mathlib.Omega.{arith}
 use borrow.Author.Tests.{eq-eqb, ne_eqb}
 use lib.Dec.{eqb}
 use lib.ListN.{length, get_or, drop, drop_of_length-le}
@@ -16,7 +15,7 @@ use Rattle.stable_sort.specs.Stable.{with_key}
 use Rattle.sheet_lines.specs.declared.Entry.{Entry}
 use Rattle.sheet_lines.specs.Lines.{entry_line}
 use Rattle.sheet_answers.specs.Sheets.{sheet_text}
-use Rattle.sheet.specs.Inner.{of_family, asked_for}
+use Rattle.sheet.specs.Inner.{row_at, picked, of_family}
 
 -- ---- one entry
 
@@ -25,62 +24,65 @@ unfolding sheet_text
 one_line e = append-nil (entry_line e)
 
 module _ (f : ℕ) (e : Entry) where
-  pub line_either : f ≡ 0 → sheet_text (asked_for f (e ∷ [])) ≡ entry_line e
-  unfolding asked_for
-  line_either h = rw (eq-eqb f 0 h) (one_line e)
+  pub line_wanted : family e.address ≡ f → sheet_text (of_family f (e ∷ [])) ≡ entry_line e
+  unfolding with_key
+  line_wanted h = rw (eq-eqb (family e.address) f h) (one_line e)
 
-  module _ (n : ¬ (f ≡ 0)) where
-    pub line_wanted : family e.address ≡ f → sheet_text (asked_for f (e ∷ [])) ≡ entry_line e
-    unfolding asked_for with_key
-    line_wanted h = rw (ne_eqb f 0 n, eq-eqb (family e.address) f h) (one_line e)
-
-    pub line_other : ¬ (family e.address ≡ f) → sheet_text (asked_for f (e ∷ [])) ≡ []
-    unfolding asked_for with_key sheet_text
-    line_other m = rw (ne_eqb f 0 n, ne_eqb (family e.address) f m)
-
--- ---- one after the other
+  pub line_other : ¬ (family e.address ≡ f) → sheet_text (of_family f (e ∷ [])) ≡ []
+  unfolding with_key sheet_text
+  line_other m = rw (ne_eqb (family e.address) f m) refl
 
 pub text_append : (es fs : List Entry) → sheet_text (es ++ fs) ≡ sheet_text es ++ sheet_text fs
 unfolding sheet_text
 text_append [] fs = refl
 text_append (e ∷ es) fs = ap (λ r. entry_line e ++ r) (text_append es fs) ∙ sym (append_assoc (entry_line e) (sheet_text es) (sheet_text fs))
 
-asked_cons : (f : ℕ) (e : Entry) (es : List Entry) → asked_for f (e ∷ es) ≡ asked_for f (e ∷ []) ++ asked_for f es
-unfolding asked_for with_key
-asked_cons f e es = go (eqb f 0) (eqb (family e.address) f)
-  where
-    go : (b c : Bool) → cond b (e ∷ es) (cond c (e ∷ of_family f es) (of_family f es)) ≡ cond b (e ∷ []) (cond c (e ∷ []) []) ++ cond b es (of_family f es)
-    go true c = refl
-    go false true = refl
-    go false false = refl
+-- ---- one after the other
 
-asked_none : (f : ℕ) → sheet_text (asked_for f []) ≡ []
-unfolding asked_for with_key sheet_text
-asked_none f = go (eqb f 0)
+-- From `old` what is written of the first p elements is put, and `now` is left: putting what is written of the others puts all.
+pub record Putting {A : Type 0} (write : List A → List ℕ) (xs : List A) (old : List ℕ) (at : ℕ) (now : List ℕ) (next p : ℕ) : Type 0 where
+  pub others : (new : List ℕ) (r : ℕ) → Puts now new next r (write (drop p xs)) → Puts old new at r (write xs)
+
+module _ {A : Type 0} {write : List A → List ℕ} {xs : List A} {old : List ℕ} {at : ℕ} {now : List ℕ} {next p : ℕ} (k : Putting write xs old at now next p) where
+  pub put_on : p < length xs → (d : A) (one : List ℕ) → ((ys : List A) → write (get_or xs p d ∷ ys) ≡ one ++ write ys) → {mid : List ℕ} {on : ℕ} → Puts now mid next on one
+      → Putting write xs old at mid on (p + 1)
+  put_on h d one law {mid} {on} q =
+      let rest = drop (p + 1) xs in
+      let split : write (drop p xs) ≡ one ++ write rest =
+      ap write (drop-cons xs p d h ∙ ap (λ (j : ℕ). get_or xs p d ∷ drop j xs) (sym (add-one p))) ∙ law rest in
+      record { others = λ new r u. k.others new r (subst (Puts now new next r) (sym split) (puts_then q u)) }
+
+  pub put_done : length xs ≤ p → write [] ≡ [] → Puts old now at next (write xs)
+  put_done h none =
+      k.others now next (subst (λ l. Puts now now next next (write l)) (sym (drop_of_length-le xs h)) (subst (Puts now now next next) (sym none) (puts_none now next)))
+
+pub no_text : sheet_text [] ≡ []
+unfolding sheet_text
+no_text = refl
+
+pub text_cons : (e : Entry) (es : List Entry) → sheet_text (e ∷ es) ≡ entry_line e ++ sheet_text es
+unfolding sheet_text
+text_cons e es = refl
+
+-- the text of the rows of a family, in an order
+abbrev pub family_text : List Entry → ℕ → List ℕ → List ℕ
+family_text rows f order = sheet_text (of_family f (picked rows order))
+
+pub no_family : (rows : List Entry) (f : ℕ) → family_text rows f [] ≡ []
+unfolding with_key sheet_text
+no_family rows f = refl
+
+family_cons : (f : ℕ) (e : Entry) (es : List Entry) → of_family f (e ∷ es) ≡ of_family f (e ∷ []) ++ of_family f es
+unfolding with_key
+family_cons f e es = go (eqb (family e.address) f)
   where
-    go : (b : Bool) → sheet_text (cond b [] []) ≡ []
+    go : (b : Bool) → cond b (e ∷ of_family f es) (of_family f es) ≡ cond b (e ∷ []) [] ++ of_family f es
     go true = refl
     go false = refl
 
--- From `old` the rows at the first p places are put and `now` is left: putting the others puts all. `g` gives the entry of a row.
-pub record Putting (g : ℕ → Entry) (order : List ℕ) (f : ℕ) (old : List ℕ) (at : ℕ) (now : List ℕ) (next p : ℕ) : Type 0 where
-  pub inside : p ≤ length order
-  pub others : (new : List ℕ) (r : ℕ) → Puts now new next r (sheet_text (asked_for f (map g (drop p order)))) → Puts old new at r (sheet_text (asked_for f (map g order)))
-
-pub put_start : (g : ℕ → Entry) (order : List ℕ) (f : ℕ) (old : List ℕ) (at : ℕ) → Putting g order f old at old at 0
-put_start g order f old at = record { inside = omega arith; others = λ new r p. p }
-
-module _ {g : ℕ → Entry} {order : List ℕ} {f : ℕ} {old : List ℕ} {at : ℕ} {now : List ℕ} {next p : ℕ} (k : Putting g order f old at now next p) where
-  pub put_on : p < length order → (e : Entry) → e ≡ g (get_or order p 0) → {mid : List ℕ} {on : ℕ} → Puts now mid next on (sheet_text (asked_for f (e ∷ [])))
-      → Putting g order f old at mid on (p + 1)
-  put_on h e is {mid} {on} q =
-      let rest = map g (drop (p + 1) order) in
-      let split : map g (drop p order) ≡ e ∷ rest =
-      ap (map g) (drop-cons order p 0 h ∙ ap (λ (j : ℕ). get_or order p 0 ∷ drop j order) (sym (add-one p))) ∙ ap (λ x. x ∷ rest) (sym is) in
-      let text : sheet_text (asked_for f (e ∷ [])) ++ sheet_text (asked_for f rest) ≡ sheet_text (asked_for f (map g (drop p order))) =
-      sym (ap (λ l. sheet_text (asked_for f l)) split ∙ ap sheet_text (asked_cons f e rest) ∙ text_append (asked_for f (e ∷ [])) (asked_for f rest)) in
-      record { inside = omega arith; others = λ new r u. k.others new r (subst (Puts now new next r) text (puts_then q u)) }
-
-  pub put_done : length order ≤ p → Puts old now at next (sheet_text (asked_for f (map g order)))
-  put_done h =
-      k.others now next (subst (λ l. Puts now now next next (sheet_text (asked_for f (map g l)))) (sym (drop_of_length-le order h)) (subst (Puts now now next next) (sym (asked_none f)) (puts_none now next)))
+pub family_text_cons : (rows : List Entry) (f i : ℕ) (order : List ℕ)
+    → family_text rows f (i ∷ order) ≡ sheet_text (of_family f (row_at rows i ∷ [])) ++ family_text rows f order
+family_text_cons rows f i order =
+    let e = row_at rows i in
+    let es = picked rows order in
+    ap sheet_text (family_cons f e es) ∙ text_append (of_family f (e ∷ [])) (of_family f es)

@@ -1,11 +1,11 @@
 -- What is claimed of a sheet that is respelled (02, Req 09): of what the call answers, and of what the buffer then holds. `sort` is the request, `t`
 -- the sheet, `old` the second buffer before the call, `gives n` a good answer of n bytes, and `seen` those bytes as the buffer then holds them.
 -- That exactly the sheets of the form are read is claimed in `sheet_grammar`. Assumes nothing.
+use Rattle.std.specs.Prelude.{Some, None}
 use mathlib.Core.Path.{◌≡◌, refl, sym, ap, subst, ◌∙◌}
 use mathlib.Core.Logic.{◌⊎◌, ◌↔◌}
 use mathlib.Core.Bool.{Bool, true, false, cond, ◌&&◌, ◌||◌}
 use mathlib.Core.List.{List, [], ◌∷◌, ◌++◌, map, Memᴰ, Permᴰ}
-use mathlib.Core.Option.{some, none}
 use Prim.Native.Nat.{ℕ, ◌*◌, ◌≤◌, ◌<◌}
 use native.Mathlib.Omega.{arith}
 use lib.Dec.{leb, ltb, eqb}
@@ -45,8 +45,8 @@ module _ (sort : Bool) (t old : List ℕ) (n : ℕ) (good : respell_answer sort 
   written = respell.good_held sort t old n good
 
   -- Every line given and every line written holds an entry, and those written are those given, "on request" sorted.
-  pub every_line_holds : (es : List Entry) × (sheet_of t ≡ some es) × (map line_entry (sheet_lines t) ≡ map some es)
-      × (sheet_of seen ≡ some (arranged sort es)) × (map line_entry (sheet_lines seen) ≡ map some (arranged sort es))
+  pub every_line_holds : (es : List Entry) × (sheet_of t ≡ Some es) × (map line_entry (sheet_lines t) ≡ map Some es)
+      × (sheet_of seen ≡ Some (arranged sort es)) × (map line_entry (sheet_lines seen) ≡ map Some (arranged sort es))
   every_line_holds =
       let es = (respell.good_sheet sort t old n good).2 in
       let given = respell.good_is sort t old n good in
@@ -62,7 +62,7 @@ module _ (sort : Bool) (t old : List ℕ) (n : ℕ) (good : respell_answer sort 
 
   -- No line written mixes two lines: the address, the volume and the pH that it holds, one line given holds.
   pub never_mixed : (line : List ℕ) → Memᴰ line (sheet_lines seen)
-      → (e : Entry) × (given : List ℕ) × (line_entry line ≡ some e) × Memᴰ given (sheet_lines t) × (line_entry given ≡ some e)
+      → (e : Entry) × (given : List ℕ) × (line_entry line ≡ Some e) × Memᴰ given (sheet_lines t) × (line_entry given ≡ Some e)
   never_mixed =
       let (es, given, held, then, written) = every_line_holds in
       respell.from_line t seen es (arranged sort es) given then (arrange.arranged_perm sort es)
@@ -100,24 +100,24 @@ module _ (t old : List ℕ) (n : ℕ) (good : respell_answer true t old ≡ give
   risen = take n (respell_leaves true t old)
 
   -- The entries written are those given, each once, in the order of their addresses, and those of one address in their old order.
-  pub rising : (es : List Entry) × (fs : List Entry) × (sheet_of t ≡ some es) × (sheet_of risen ≡ some fs) × StableSort (λ (e : Entry). place e.address) es fs
+  pub rising : (es : List Entry) × (fs : List Entry) × (sheet_of t ≡ Some es) × (sheet_of risen ≡ Some fs) × StableSort (λ (e : Entry). place e.address) es fs
   rising =
       let (es, given, held, then, written) = every_line_holds true t old n good in
       (es, arranged true es, given, then, arrange.sorted_is es)
 
   -- So of two lines the later has an address of the higher family, or of the same family and no lower number.
-  pub by_address : (fs : List Entry) → sheet_of risen ≡ some fs → (d : Entry) (p q : ℕ) → p < q → q < length fs
+  pub by_address : (fs : List Entry) → sheet_of risen ≡ Some fs → (d : Entry) (p q : ℕ) → p < q → q < length fs
       → let a = (get_or fs p d).address in let b = (get_or fs q d).address in (family a < family b) ⊎ ((family a ≡ family b) × (number a ≤ number b))
   by_address fs is =
       let (es, gs, given, then, stable) = rising in
       order.entries_order fs (respell.entries_all risen fs is) (subst (Rising (λ (e : Entry). place e.address)) (same_value (sym then ∙ is)) stable.rising)
 
   -- There is no other such sheet.
-  pub only_rising : (u : List ℕ) (es fs : List Entry) → sheet_of t ≡ some es → sheet_of u ≡ some fs → StableSort (λ (e : Entry). place e.address) es fs → Spelled u → u ≡ risen
+  pub only_rising : (u : List ℕ) (es fs : List Entry) → sheet_of t ≡ Some es → sheet_of u ≡ Some fs → StableSort (λ (e : Entry). place e.address) es fs → Spelled u → u ≡ risen
   only_rising u es fs is holds stable s =
       let (ds, given, held, then, written) = every_line_holds true t old n good in
       let same : ds ≡ es = same_value (sym given ∙ is) in
-      respell.one_spelling u risen fs holds (then ∙ ap some (ap (arranged true) same ∙ sym (arrange.sorted_only es fs stable))) s (spelled true t old n good)
+      respell.one_spelling u risen fs holds (then ∙ ap Some (ap (arranged true) same ∙ sym (arrange.sorted_only es fs stable))) s (spelled true t old n good)
 
 -- ---- the order of addresses
 
@@ -141,17 +141,17 @@ module _ (sort : Bool) (t old : List ℕ) where
   number_10 = refusals.ten_exactly sort t old
 
   -- "both before 2"; "Any malformed line [...] refuses the sheet by 2."
-  pub number_2 : ((respell_answer sort t old).number ≡ 2) ↔ ((length t ≤ 65536) × (length (sheet_lines t) ≤ 1024) × (sheet_of t ≡ none))
+  pub number_2 : ((respell_answer sort t old).number ≡ 2) ↔ ((length t ≤ 65536) × (length (sheet_lines t) ≤ 1024) × (sheet_of t ≡ None))
   number_2 = refusals.two_exactly sort t old
 
   -- "refusal 3 last": where the sheet itself is not refused, and the buffer is shorter than what is to be written.
   pub number_3 : ((respell_answer sort t old).number ≡ 3)
-      ↔ ((length t ≤ 65536) × (length (sheet_lines t) ≤ 1024) × (es : List Entry) × (sheet_of t ≡ some es) × (length old < length (sheet_text (arranged sort es))))
+      ↔ ((length t ≤ 65536) × (length (sheet_lines t) ≤ 1024) × (es : List Entry) × (sheet_of t ≡ Some es) × (length old < length (sheet_text (arranged sort es))))
   number_3 = refusals.three_exactly sort t old
 
   -- The answer is good exactly if none of these holds,
   pub number_0 : ((respell_answer sort t old).number ≡ 0)
-      ↔ ((length t ≤ 65536) × (length (sheet_lines t) ≤ 1024) × (es : List Entry) × (sheet_of t ≡ some es) × (length (sheet_text (arranged sort es)) ≤ length old))
+      ↔ ((length t ≤ 65536) × (length (sheet_lines t) ≤ 1024) × (es : List Entry) × (sheet_of t ≡ Some es) × (length (sheet_text (arranged sort es)) ≤ length old))
   number_0 = refusals.zero_exactly sort t old
 
   -- and no other number is answered.
@@ -174,7 +174,7 @@ module _ (sort : Bool) (t old : List ℕ) where
 
 -- ---- room
 
-module _ (sort : Bool) (t : List ℕ) (es : List Entry) (is : sheet_of t ≡ some es) where
+module _ (sort : Bool) (t : List ℕ) (es : List Entry) (is : sheet_of t ≡ Some es) where
   -- What is written has at most 52 bytes for each line given,
   pub at_most_52_a_line : length (respelled sort t) ≤ 52 * length (sheet_lines t)
   at_most_52_a_line = respell.respelled_most t es is sort

@@ -1,7 +1,7 @@
 -- A sheet cut at its newlines, one line after the other. Assumes nothing.
+use Rattle.std.specs.Prelude.{Some, None}
 use mathlib.Core.Path.{◌≡◌, refl, sym, ap, ◌∙◌}
 use mathlib.Core.List.{List, [], ◌∷◌, ◌++◌}
-use mathlib.Core.Option.{some, none}
 use Prim.Native.Nat.{ℕ, ◌+◌, ◌≤◌, ◌<◌}
 use native.Mathlib.Numerals.{add-one}
 use native.Mathlib.Omega.{arith}
@@ -43,11 +43,11 @@ module _ (t : List ℕ) (i : ℕ) (at : i ≡ index_of 10 t) where
     pub found_lines : sheet_lines t ≡ take i t ∷ sheet_lines (tail (i + 1) t)
     found_lines = cut_lines t (take i t) (tail (i + 1) t) found
 
-  pub last_entries : 0 < length t → length t ≤ i → sheet_of t ≡ none
+  pub last_entries : 0 < length t → length t ≤ i → sheet_of t ≡ None
   unfolding sheet_of
   last_entries p h = ap entries_of (split_last 10 t (omega arith)) ∙ some_bytes t p
     where
-      some_bytes : (u : List ℕ) → 0 < length u → entries_of (u ∷ []) ≡ none
+      some_bytes : (u : List ℕ) → 0 < length u → entries_of (u ∷ []) ≡ None
       some_bytes [] q = absurd (omega arith)
       some_bytes (x ∷ u) q = refl
 
@@ -59,7 +59,7 @@ module _ (t : List ℕ) (i : ℕ) (at : i ≡ index_of 10 t) where
       some_bytes [] q = absurd (omega arith)
       some_bytes (x ∷ u) q = refl
 
-pub no_entries : sheet_of [] ≡ some []
+pub no_entries : sheet_of [] ≡ Some []
 unfolding sheet_of
 no_entries = refl
 

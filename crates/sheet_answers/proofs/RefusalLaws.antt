@@ -1,9 +1,9 @@
 -- By which number the call refuses, and when; a refused call. Assumes nothing.
+use Rattle.std.specs.Prelude.{Option, Some, None}
 use mathlib.Core.Path.{◌≡◌, refl, sym, ap, subst, ◌∙◌}
 use mathlib.Core.Logic.{◌⊎◌, inl, inr, ◌↔◌}
 use mathlib.Core.Bool.{Bool, false}
 use mathlib.Core.List.{List, [], ◌∷◌}
-use mathlib.Core.Option.{Option, some, none}
 use Prim.Native.Nat.{ℕ, ◌≤◌, ◌<◌}
 use native.Mathlib.Decide.{dec_lt, dec_le}
 use native.Mathlib.Omega.{arith}
@@ -44,16 +44,16 @@ module _ (t : List ℕ) where
       no_more_lines : ltb most_lines (length (sheet_lines t)) ≡ false
       no_more_lines = le-ltb most_lines (length (sheet_lines t)) (omega arith)
 
-      pub malformed : sheet_of t ≡ none → sheet_refusal t ≡ 2
+      pub malformed : sheet_of t ≡ None → sheet_refusal t ≡ 2
       unfolding refusal
       malformed h = refusal_is _ _ _ no_more_bytes no_more_lines (ap missing h)
 
-      pub not_refused : (es : List Entry) → sheet_of t ≡ some es → sheet_refusal t ≡ 0
+      pub not_refused : (es : List Entry) → sheet_of t ≡ Some es → sheet_refusal t ≡ 0
       unfolding refusal
       not_refused es h = refusal_is _ _ _ no_more_bytes no_more_lines (ap missing h)
 
 -- what is to be written of a sheet that is read
-pub respelled_some : (sort : Bool) (t : List ℕ) (es : List Entry) → sheet_of t ≡ some es → respelled sort t ≡ sheet_text (arranged sort es)
+pub respelled_some : (sort : Bool) (t : List ℕ) (es : List Entry) → sheet_of t ≡ Some es → respelled sort t ≡ sheet_text (arranged sort es)
 unfolding respelled
 respelled_some sort t es e = rw e
 
@@ -63,9 +63,9 @@ respelled_some sort t es e = rw e
 pub data Outcomes (sort : Bool) (t old : List ℕ) : ℕ → Type 0 where
   long : 65536 < length t → Outcomes sort t old 1
   many : length t ≤ 65536 → 1024 < length (sheet_lines t) → Outcomes sort t old 10
-  bad : length t ≤ 65536 → length (sheet_lines t) ≤ 1024 → sheet_of t ≡ none → Outcomes sort t old 2
-  no_room : length t ≤ 65536 → length (sheet_lines t) ≤ 1024 → (es : List Entry) → sheet_of t ≡ some es → length old < length (sheet_text (arranged sort es)) → Outcomes sort t old 3
-  good : length t ≤ 65536 → length (sheet_lines t) ≤ 1024 → (es : List Entry) → sheet_of t ≡ some es → length (sheet_text (arranged sort es)) ≤ length old → Outcomes sort t old 0
+  bad : length t ≤ 65536 → length (sheet_lines t) ≤ 1024 → sheet_of t ≡ None → Outcomes sort t old 2
+  no_room : length t ≤ 65536 → length (sheet_lines t) ≤ 1024 → (es : List Entry) → sheet_of t ≡ Some es → length old < length (sheet_text (arranged sort es)) → Outcomes sort t old 3
+  good : length t ≤ 65536 → length (sheet_lines t) ≤ 1024 → (es : List Entry) → sheet_of t ≡ Some es → length (sheet_text (arranged sort es)) ≤ length old → Outcomes sort t old 0
 
 module _ (sort : Bool) (t old : List ℕ) where
   abbrev answered : ℕ
@@ -88,7 +88,7 @@ module _ (sort : Bool) (t old : List ℕ) where
   own n h e = number_is ∙ stands (respelled sort t) old (sheet_refusal t) (omega (arith, e, h)) ∙ e
 
   -- else the room decides
-  room : (es : List Entry) → sheet_of t ≡ some es → sheet_refusal t ≡ 0 → answered ≡ write_refusal 0 (sheet_text (arranged sort es)) old
+  room : (es : List Entry) → sheet_of t ≡ Some es → sheet_refusal t ≡ 0 → answered ≡ write_refusal 0 (sheet_text (arranged sort es)) old
   room es is e = number_is ∙ ap (λ m. write_refusal m (respelled sort t) old) e ∙ ap (λ u. write_refusal 0 u old) (respelled_some sort t es is)
 
   pub outcome_number : {n : ℕ} → Outcomes sort t old n → (respell_answer sort t old).number ≡ n
@@ -111,8 +111,8 @@ module _ (sort : Bool) (t old : List ℕ) where
   ]
     where
       go : length t ≤ 65536 → length (sheet_lines t) ≤ 1024 → (o : Option (List Entry)) → sheet_of t ≡ o → Outcomes sort t old (respell_answer sort t old).number
-      go s f none e = of (bad s f e)
-      go s f (some es) e = elim (dec_le (length (sheet_text (arranged sort es))) (length old)) [
+      go s f None e = of (bad s f e)
+      go s f (Some es) e = elim (dec_le (length (sheet_text (arranged sort es))) (length old)) [
         | yes h ↦ of (good s f es e h)
         | no h ↦ of (no_room s f es e (omega (arith, h)))
       ]
@@ -139,10 +139,10 @@ module _ (sort : Bool) (t old : List ℕ) where
       go (no_room s f es is h) e = absurd (omega arith)
       go (good s f es is h) e = absurd (omega arith)
 
-  pub two_exactly : (answered ≡ 2) ↔ ((length t ≤ 65536) × (length (sheet_lines t) ≤ 1024) × (sheet_of t ≡ none))
+  pub two_exactly : (answered ≡ 2) ↔ ((length t ≤ 65536) × (length (sheet_lines t) ≤ 1024) × (sheet_of t ≡ None))
   two_exactly = (λ e. go outcome e, λ h. outcome_number (bad h.0 h.1 h.2))
     where
-      go : {n : ℕ} → Outcomes sort t old n → n ≡ 2 → (length t ≤ 65536) × (length (sheet_lines t) ≤ 1024) × (sheet_of t ≡ none)
+      go : {n : ℕ} → Outcomes sort t old n → n ≡ 2 → (length t ≤ 65536) × (length (sheet_lines t) ≤ 1024) × (sheet_of t ≡ None)
       go (long h) e = absurd (omega arith)
       go (many s h) e = absurd (omega arith)
       go (bad s f h) e = (s, f, h)
@@ -150,11 +150,11 @@ module _ (sort : Bool) (t old : List ℕ) where
       go (good s f es is h) e = absurd (omega arith)
 
   pub three_exactly : (answered ≡ 3)
-      ↔ ((length t ≤ 65536) × (length (sheet_lines t) ≤ 1024) × (es : List Entry) × (sheet_of t ≡ some es) × (length old < length (sheet_text (arranged sort es))))
+      ↔ ((length t ≤ 65536) × (length (sheet_lines t) ≤ 1024) × (es : List Entry) × (sheet_of t ≡ Some es) × (length old < length (sheet_text (arranged sort es))))
   three_exactly = (λ e. go outcome e, λ h. outcome_number (no_room h.0 h.1 h.2 h.3 h.4))
     where
       go : {n : ℕ} → Outcomes sort t old n → n ≡ 3
-          → (length t ≤ 65536) × (length (sheet_lines t) ≤ 1024) × (es : List Entry) × (sheet_of t ≡ some es) × (length old < length (sheet_text (arranged sort es)))
+          → (length t ≤ 65536) × (length (sheet_lines t) ≤ 1024) × (es : List Entry) × (sheet_of t ≡ Some es) × (length old < length (sheet_text (arranged sort es)))
       go (long h) e = absurd (omega arith)
       go (many s h) e = absurd (omega arith)
       go (bad s f h) e = absurd (omega arith)
@@ -162,11 +162,11 @@ module _ (sort : Bool) (t old : List ℕ) where
       go (good s f es is h) e = absurd (omega arith)
 
   pub zero_exactly : (answered ≡ 0)
-      ↔ ((length t ≤ 65536) × (length (sheet_lines t) ≤ 1024) × (es : List Entry) × (sheet_of t ≡ some es) × (length (sheet_text (arranged sort es)) ≤ length old))
+      ↔ ((length t ≤ 65536) × (length (sheet_lines t) ≤ 1024) × (es : List Entry) × (sheet_of t ≡ Some es) × (length (sheet_text (arranged sort es)) ≤ length old))
   zero_exactly = (λ e. go outcome e, λ h. outcome_number (good h.0 h.1 h.2 h.3 h.4))
     where
       go : {n : ℕ} → Outcomes sort t old n → n ≡ 0
-          → (length t ≤ 65536) × (length (sheet_lines t) ≤ 1024) × (es : List Entry) × (sheet_of t ≡ some es) × (length (sheet_text (arranged sort es)) ≤ length old)
+          → (length t ≤ 65536) × (length (sheet_lines t) ≤ 1024) × (es : List Entry) × (sheet_of t ≡ Some es) × (length (sheet_text (arranged sort es)) ≤ length old)
       go (long h) e = absurd (omega arith)
       go (many s h) e = absurd (omega arith)
       go (bad s f h) e = absurd (omega arith)

@@ -1,10 +1,10 @@
 -- What a good call has written: what its lines hold, how long it is, and a second call on it. Assumes nothing.
+use Rattle.std.specs.Prelude.{Some}
 use mathlib.Core.Path.{◌≡◌, refl, sym, ap, ap₂, subst, subst₂, ◌∙◌}
 use mathlib.Core.Bool.{Bool, true, false, cond}
 use mathlib.Core.List.Memᴰ
 use mathlib.Core.List.Permᴰ
 use mathlib.Core.List.{List, [], ◌++◌, map, Memᴰ, Permᴰ}
-use mathlib.Core.Option.{some}
 use Prim.Native.Nat.{ℕ, ◌*◌, ◌≤◌}
 use native.Mathlib.Omega.{arith}
 use lib.ListN.{length, take, drop, length-map}
@@ -22,15 +22,15 @@ use Rattle.sheet_answers.proofs.RefusalLaws.{respelled_some, not_refused, zero_e
 
 -- ---- a sheet that is read
 
-module _ (t : List ℕ) (es : List Entry) (is : sheet_of t ≡ some es) where
+module _ (t : List ℕ) (es : List Entry) (is : sheet_of t ≡ Some es) where
   pub entries_all : AllEntries es
   entries_all = read_all (sheet_read t es is)
 
-  pub lines_hold : map line_entry (sheet_lines t) ≡ map some es
+  pub lines_hold : map line_entry (sheet_lines t) ≡ map Some es
   lines_hold = read_lines (sheet_read t es is)
 
   pub as_many : length (sheet_lines t) ≡ length es
-  as_many = sym (length-map (sheet_lines t) line_entry) ∙ ap length lines_hold ∙ length-map es some
+  as_many = sym (length-map (sheet_lines t) line_entry) ∙ ap length lines_hold ∙ length-map es Some
 
   -- ---- and what is written of it
 
@@ -44,7 +44,7 @@ module _ (t : List ℕ) (es : List Entry) (is : sheet_of t ≡ some es) where
     written : respelled sort t ≡ sheet_text fs
     written = respelled_some sort t es is
 
-    pub respelled_read : sheet_of (respelled sort t) ≡ some fs
+    pub respelled_read : sheet_of (respelled sort t) ≡ Some fs
     respelled_read = ap sheet_of written ∙ read_sheet (text_read fs all)
 
     pub respelled_lines : length (sheet_lines (respelled sort t)) ≡ length (sheet_lines t)
@@ -58,34 +58,34 @@ module _ (t : List ℕ) (es : List Entry) (is : sheet_of t ≡ some es) where
     respelled_most = omega (arith, ap length written, text_most fs all, ap (λ (k : ℕ). 52 * k) (sym (perm_length (arranged_perm sort es))), ap (λ (k : ℕ). 52 * k) as_many)
 
 -- two sheets of the same entries, each in the spelling that is written, are the same
-pub one_spelling : (t u : List ℕ) (es : List Entry) → sheet_of t ≡ some es → sheet_of u ≡ some es → Spelled t → Spelled u → t ≡ u
+pub one_spelling : (t u : List ℕ) (es : List Entry) → sheet_of t ≡ Some es → sheet_of u ≡ Some es → Spelled t → Spelled u → t ≡ u
 one_spelling t u es p q s r = read_spelled (sheet_read t es p) s ∙ sym (read_spelled (sheet_read u es q) r)
 
 -- what each line of the second sheet holds, a line of the first holds
-pub from_line : (t u : List ℕ) (es fs : List Entry) → sheet_of t ≡ some es → sheet_of u ≡ some fs → Permᴰ es fs
-    → (line : List ℕ) → Memᴰ line (sheet_lines u) → (e : Entry) × (given : List ℕ) × (line_entry line ≡ some e) × Memᴰ given (sheet_lines t) × (line_entry given ≡ some e)
+pub from_line : (t u : List ℕ) (es fs : List Entry) → sheet_of t ≡ Some es → sheet_of u ≡ Some fs → Permᴰ es fs
+    → (line : List ℕ) → Memᴰ line (sheet_lines u) → (e : Entry) × (given : List ℕ) × (line_entry line ≡ Some e) × Memᴰ given (sheet_lines t) × (line_entry given ≡ Some e)
 from_line t u es fs p q perm line m =
     let held = subst (Memᴰ (line_entry line)) (lines_hold u fs q) (Memᴰ.map line_entry m) in
-    let (e, there, is) = Memᴰ.of_map some fs held in
-    let (given, here, has) = Memᴰ.of_map line_entry (sheet_lines t) (subst (Memᴰ (some e)) (sym (lines_hold t es p)) (Memᴰ.map some (perm_from perm there))) in
+    let (e, there, is) = Memᴰ.of_map Some fs held in
+    let (given, here, has) = Memᴰ.of_map line_entry (sheet_lines t) (subst (Memᴰ (Some e)) (sym (lines_hold t es p)) (Memᴰ.map Some (perm_from perm there))) in
     (e, given, sym is, here, has)
 
 -- and the lines of both hold the same, each once
-pub same_lines : (t u : List ℕ) (es fs : List Entry) → sheet_of t ≡ some es → sheet_of u ≡ some fs → Permᴰ es fs
+pub same_lines : (t u : List ℕ) (es fs : List Entry) → sheet_of t ≡ Some es → sheet_of u ≡ Some fs → Permᴰ es fs
     → Permᴰ (map line_entry (sheet_lines t)) (map line_entry (sheet_lines u))
-same_lines t u es fs p q perm = subst₂ Permᴰ (sym (lines_hold t es p)) (sym (lines_hold u fs q)) (Permᴰ.map some perm)
+same_lines t u es fs p q perm = subst₂ Permᴰ (sym (lines_hold t es p)) (sym (lines_hold u fs q)) (Permᴰ.map Some perm)
 
 -- ---- a good answer
 
 module _ (sort : Bool) (t old : List ℕ) (n : ℕ) (good : respell_answer sort t old ≡ gives n) where
   -- what is known of the sheet
-  pub good_sheet : (length t ≤ 65536) × (length (sheet_lines t) ≤ 1024) × (es : List Entry) × (sheet_of t ≡ some es) × (length (sheet_text (arranged sort es)) ≤ length old)
+  pub good_sheet : (length t ≤ 65536) × (length (sheet_lines t) ≤ 1024) × (es : List Entry) × (sheet_of t ≡ Some es) × (length (sheet_text (arranged sort es)) ≤ length old)
   good_sheet = (zero_exactly sort t old).0 (ap (λ (r : Answer ℕ). r.number) good)
 
   abbrev es : List Entry
   es = good_sheet.2
 
-  pub good_is : sheet_of t ≡ some es
+  pub good_is : sheet_of t ≡ Some es
   good_is = good_sheet.3
 
   pub good_held : (take n (respell_leaves sort t old) ≡ respelled sort t) × (n ≡ length (respelled sort t)) × (n ≤ length old) × (drop n (respell_leaves sort t old) ≡ drop n old)
@@ -98,7 +98,7 @@ module _ (sort : Bool) (t old : List ℕ) (n : ℕ) (good : respell_answer sort 
   pub seen_is : seen ≡ respelled sort t
   seen_is = good_held.0
 
-  pub seen_read : sheet_of seen ≡ some (arranged sort es)
+  pub seen_read : sheet_of seen ≡ Some (arranged sort es)
   seen_read = ap sheet_of seen_is ∙ respelled_read t es good_is sort
 
   pub seen_spelled : Spelled seen
@@ -145,7 +145,7 @@ module _ (sort : Bool) (t old : List ℕ) (n : ℕ) (good : respell_answer sort 
 pub empty : (sort : Bool) (old : List ℕ) → (respell_answer sort [] old ≡ gives 0) × (respell_leaves sort [] old ≡ old)
 unfolding respell_answer respell_leaves sheet_text
 empty sort old =
-    let none : respelled sort [] ≡ [] = respelled_some sort [] [] no_entries ∙ ap sheet_text (arranged_none sort) in
+    let written : respelled sort [] ≡ [] = respelled_some sort [] [] no_entries ∙ ap sheet_text (arranged_none sort) in
     let fine = not_refused [] (omega arith) (omega (arith, ap length no_lines)) [] no_entries in
-    let w = write_none (sheet_refusal []) (respelled sort []) old fine (write_fits (respelled sort []) old 0 (ap length none) (omega arith) old (sym (ap (λ u. u ++ old) none))) in
+    let w = write_none (sheet_refusal []) (respelled sort []) old fine (write_fits (respelled sort []) old 0 (ap length written) (omega arith) old (sym (ap (λ u. u ++ old) written))) in
     (sym w.0, sym w.1)

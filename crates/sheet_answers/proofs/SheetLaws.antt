@@ -1,7 +1,7 @@
 -- A sheet that is read, line by line: what its lines hold; and the sheet that is written of entries. Assumes nothing.
+use Rattle.std.specs.Prelude.{Option, Some, None}
 use mathlib.Core.Path.{◌≡◌, refl, sym, ap, ap₂, subst, ◌∙◌}
 use mathlib.Core.List.{List, [], ◌∷◌, ◌++◌, map, append_assoc}
-use mathlib.Core.Option.{Option, some, none}
 use Prim.Native.Nat.{ℕ, ◌*◌, ◌≤◌}
 use native.Mathlib.Nat.{mul-suc}
 use native.Mathlib.Omega.{arith}
@@ -21,15 +21,15 @@ use Rattle.sheet_answers.proofs.LineLaws.{no_entries, no_lines, after_entries, a
 -- a text that is read as entries: no bytes, or a line that holds an entry, a newline, and more
 pub data ReadAs : List ℕ → List Entry → Type 0 where
   no_line : ReadAs [] []
-  and_line : (line : List ℕ) {rest : List ℕ} {e : Entry} {es : List Entry} → line_entry line ≡ some e → ReadAs rest es → ReadAs (line ++ 10 ∷ rest) (e ∷ es)
+  and_line : (line : List ℕ) {rest : List ℕ} {e : Entry} {es : List Entry} → line_entry line ≡ Some e → ReadAs rest es → ReadAs (line ++ 10 ∷ rest) (e ∷ es)
 
-before_says : (o : Option Entry) (os : Option (List Entry)) (es : List Entry) → before o os ≡ some es
-    → (e : Entry) × (fs : List Entry) × (o ≡ some e) × (os ≡ some fs) × (es ≡ e ∷ fs)
-before_says none os es k = impossible k
-before_says (some e) none es k = impossible k
-before_says (some e) (some fs) es k = (e, fs, refl, refl, sym (same_value k))
+before_says : (o : Option Entry) (os : Option (List Entry)) (es : List Entry) → before o os ≡ Some es
+    → (e : Entry) × (fs : List Entry) × (o ≡ Some e) × (os ≡ Some fs) × (es ≡ e ∷ fs)
+before_says None os es k = impossible k
+before_says (Some e) None es k = impossible k
+before_says (Some e) (Some fs) es k = (e, fs, refl, refl, sym (same_value k))
 
-pieces_read : (ps : List (List ℕ)) (es : List Entry) → entries_of ps ≡ some es → ReadAs (separated 10 ps) es
+pieces_read : (ps : List (List ℕ)) (es : List Entry) → entries_of ps ≡ Some es → ReadAs (separated 10 ps) es
 unfolding entries_of separated
 pieces_read [] es k = subst (ReadAs []) (same_value k) no_line
 pieces_read ([] ∷ []) es k = subst (ReadAs []) (same_value k) no_line
@@ -38,20 +38,20 @@ pieces_read (p ∷ q ∷ ps) es k =
     let (e, fs, first, rest, is) = before_says (line_entry p) (entries_of (q ∷ ps)) es k in
     subst (ReadAs (separated 10 (p ∷ q ∷ ps))) (sym is) (and_line p first (pieces_read (q ∷ ps) fs rest))
 
-pub sheet_read : (t : List ℕ) (es : List Entry) → sheet_of t ≡ some es → ReadAs t es
+pub sheet_read : (t : List ℕ) (es : List Entry) → sheet_of t ≡ Some es → ReadAs t es
 unfolding sheet_of
 sheet_read t es k = subst (λ u. ReadAs u es) (separated_split 10 t) (pieces_read (split_on 10 t) es k)
 
 -- no line that holds an entry has a newline
-line_lacks : (line : List ℕ) (e : Entry) → line_entry line ≡ some e → Lacks 10 line
+line_lacks : (line : List ℕ) (e : Entry) → line_entry line ≡ Some e → Lacks 10 line
 line_lacks line e h = holds_lacks line e (read_holds line e h)
 
-pub read_sheet : {t : List ℕ} {es : List Entry} → ReadAs t es → sheet_of t ≡ some es
+pub read_sheet : {t : List ℕ} {es : List Entry} → ReadAs t es → sheet_of t ≡ Some es
 read_sheet no_line = no_entries
 read_sheet (and_line line {rest} {e} h r) = after_entries line rest (line_lacks line e h) ∙ ap₂ before h (read_sheet r)
 
 -- every line holds the entry at its place
-pub read_lines : {t : List ℕ} {es : List Entry} → ReadAs t es → map line_entry (sheet_lines t) ≡ map some es
+pub read_lines : {t : List ℕ} {es : List Entry} → ReadAs t es → map line_entry (sheet_lines t) ≡ map Some es
 read_lines no_line = ap (map line_entry) no_lines
 read_lines (and_line line {rest} {e} h r) = ap (map line_entry) (after_lines line rest (line_lacks line e h)) ∙ ap₂ (λ o os. o ∷ os) h (read_lines r)
 
@@ -85,9 +85,9 @@ text_most (e ∷ es) a = omega (arith, text_most es a.1, line_most e a.0, length
 
 -- ---- lines as they are written
 
-spelled_cons : (line rest : List ℕ) (e : Entry) → line_entry line ≡ some e → Spelled (line ++ 10 ∷ rest) → (line ≡ entry_text e) × Spelled rest
+spelled_cons : (line rest : List ℕ) (e : Entry) → line_entry line ≡ Some e → Spelled (line ++ 10 ∷ rest) → (line ≡ entry_text e) × Spelled rest
 spelled_cons line rest e h s =
-    let w = subst (Each (λ l. (f : Entry) → line_entry l ≡ some f → l ≡ entry_text f)) (after_lines line rest (line_lacks line e h)) s in
+    let w = subst (Each (λ l. (f : Entry) → line_entry l ≡ Some f → l ≡ entry_text f)) (after_lines line rest (line_lacks line e h)) s in
     (w.0 e h, w.1)
 
 -- such a sheet is the one of its entries
@@ -100,8 +100,8 @@ read_spelled (and_line line {rest} {e} {es} h r) s =
 
 -- and the one of any entries is such a sheet
 pub text_spelled : (es : List Entry) → AllEntries es → Spelled (sheet_text es)
-text_spelled es a = subst (Each (λ l. (f : Entry) → line_entry l ≡ some f → l ≡ entry_text f)) (sym (text_lines es a)) (all es a)
+text_spelled es a = subst (Each (λ l. (f : Entry) → line_entry l ≡ Some f → l ≡ entry_text f)) (sym (text_lines es a)) (all es a)
   where
-    all : (es : List Entry) → AllEntries es → Each (λ l. (f : Entry) → line_entry l ≡ some f → l ≡ entry_text f) (map entry_text es)
+    all : (es : List Entry) → AllEntries es → Each (λ l. (f : Entry) → line_entry l ≡ Some f → l ≡ entry_text f) (map entry_text es)
     all [] a = tt
     all (e ∷ es) a = (λ f h. ap entry_text (same_value (sym (entry_back e a.0) ∙ h)), all es a.1)

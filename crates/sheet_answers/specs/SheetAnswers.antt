@@ -1,13 +1,12 @@
 -- A sheet respelled: what the call answers, and what it leaves in the second buffer (02, Req 09). Assumes nothing.
-use Rattle.std.specs.Prelude.{Bool, List, [], ◌∷◌, ℕ, ltb, length}
-use Rattle.std.proofs.Math.Option.{get_or}
+use Rattle.std.specs.Prelude.{Bool, List, [], ◌∷◌, ℕ, ltb, length, unwrap_or}
 use Rattle.address.specs.Answers.{Answer, missing, refusal, write_answer, write_leaves}
 use Rattle.sheet_lines.specs.declared.Entry.{Entry}
 use Rattle.sheet_answers.specs.Sheets.{sheet_lines, sheet_of, sheet_text, sorted, arranged}
 
 -- the entries of a sheet; none where it is malformed
 abbrev pub entries_in : List ℕ → List Entry
-entries_in t = get_or (sheet_of t) []
+entries_in t = unwrap_or (sheet_of t) []
 
 -- what is to be written: "It respells each address normally, and on request sorts whole lines"
 unfoldable pub respelled : Bool → List ℕ → List ℕ

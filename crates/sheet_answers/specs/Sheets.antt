@@ -1,6 +1,5 @@
 -- The acidity sheet: its lines, what they hold, and their order (02, Req 09). A text is the list of its bytes. Assumes nothing.
-use Rattle.std.specs.Prelude.{◌≡◌, Bool, cond, List, [], ◌∷◌, ◌++◌, ℕ, ◌+◌, ◌^◌}
-use Rattle.std.proofs.Math.Option.{Option, some, none}
+use Rattle.std.specs.Prelude.{◌≡◌, Bool, cond, List, [], ◌∷◌, ◌++◌, ℕ, ◌+◌, ◌^◌, Option, Some, None}
 use Rattle.notation.specs.Pieces.{split_on, Each}
 use Rattle.address.specs.declared.Address.{Address}
 use Rattle.address.specs.declared.Address.TheVariants.{V4, V6}
@@ -26,16 +25,16 @@ sheet_lines t = lines_of (split_on 10 t)
 
 -- an entry before others, where all are read
 abbrev pub before : Option Entry → Option (List Entry) → Option (List Entry)
-before none es = none
-before (some e) none = none
-before (some e) (some es) = some (e ∷ es)
+before None es = None
+before (Some e) None = None
+before (Some e) (Some es) = Some (e ∷ es)
 
 -- the entries of a text cut at its newlines: "A final line without its newline .. is malformed"
 unfoldable pub entries_of : List (List ℕ) → Option (List Entry)
 unfolding line_entry
-entries_of [] = some []
-entries_of ([] ∷ []) = some []
-entries_of ((x ∷ p) ∷ []) = none
+entries_of [] = Some []
+entries_of ([] ∷ []) = Some []
+entries_of ((x ∷ p) ∷ []) = None
 entries_of (p ∷ q ∷ ps) = before (line_entry p) (entries_of (q ∷ ps))
 
 -- what a sheet holds: "Any malformed line .. refuses the sheet"
@@ -56,7 +55,7 @@ AllEntries (e ∷ es) = IsEntry e × AllEntries es
 
 -- every line is the one that is written of what it holds: "It respells each address normally"
 abbrev pub Spelled : List ℕ → Type 0
-Spelled t = Each (λ line. (e : Entry) → line_entry line ≡ some e → line ≡ entry_text e) (sheet_lines t)
+Spelled t = Each (λ line. (e : Entry) → line_entry line ≡ Some e → line ≡ entry_text e) (sheet_lines t)
 
 -- ---- their order
 

@@ -1,10 +1,10 @@
 -- What is claimed of the acidity sheet (02, Req 09) by its inductive form: exactly its sheets are read, respelled and refused, and what is written is
 -- the one text of its form. Assumes nothing.
+use Rattle.std.specs.Prelude.{Some, None, Result}
 use mathlib.Core.Path.{◌≡◌, sym, subst, subst₂, ◌∙◌}
 use mathlib.Core.Logic.{◌⊎◌, ◌↔◌}
 use mathlib.Core.Bool.{Bool, true}
 use mathlib.Core.List.{List, [], ◌∷◌, ◌++◌, Permᴰ}
-use mathlib.Core.Option.{some, none}
 use Prim.Native.Nat.{ℕ, ◌+◌, ◌*◌, ◌^◌, ◌≤◌}
 use lib.ListN.{length, drop, replicate}
 use Rattle.notation.proofs.OptionLaws.{impossible, nothing_there}
@@ -12,7 +12,6 @@ use Rattle.address.specs.declared.Address.{Address}
 use Rattle.address.specs.declared.Address.TheVariants.{V6}
 use Rattle.address.specs.Addresses.{IsAddress}
 use Rattle.address.specs.declared.Refusal.{Refusal}
-use Rattle.address.specs.declared.Writing.{Writing}
 use Rattle.address.specs.Answers.{Answer, gives, refuses, refusal_number, write_answer, writing_answer}
 use Rattle.grammar.specs.StrictForm.{StrictForm}
 use Rattle.grammar.proofs.CallLaws.{refuses_exactly}
@@ -34,19 +33,19 @@ use Rattle.sheet_grammar.proofs.SheetCallLaws as call
 -- ---- what is read
 
 -- "the numbers have no leading zero except `0`": of at most m, read exactly if the rule has the text.
-pub number_exactly : (m : ℕ) (t : List ℕ) (n : ℕ) → (number_to m t ≡ some n) ↔ (PlainNumber t n × (n ≤ m))
+pub number_exactly : (m : ℕ) (t : List ℕ) (n : ℕ) → (number_to m t ≡ Some n) ↔ (PlainNumber t n × (n ≤ m))
 number_exactly m t n = (numbers.reads_plain m t n, λ p. numbers.plain_reads m p.0 p.1)
 
 -- "A line is a strict address, a comma, a volume number from 1 to 999,999, a comma, and pH in hundredths from 0 to 1400"
-pub line_exactly : (l : List ℕ) (e : Entry) → (line_entry l ≡ some e) ↔ Line l e
+pub line_exactly : (l : List ℕ) (e : Entry) → (line_entry l ≡ Some e) ↔ Line l e
 line_exactly l e = (lines.reads_line l e, lines.line_reads)
 
 -- "ended by a newline"
-pub sheet_exactly : (t : List ℕ) (es : List Entry) → (sheet_of t ≡ some es) ↔ Sheet t es
+pub sheet_exactly : (t : List ℕ) (es : List Entry) → (sheet_of t ≡ Some es) ↔ Sheet t es
 sheet_exactly t es = (form.reads_sheet t es, form.sheet_reads)
 
 -- "Any malformed line [...] refuses the sheet": it has no meaning exactly if no entries are its meaning.
-pub malformed_exactly : (t : List ℕ) → (sheet_of t ≡ none) ↔ ((es : List Entry) → Sheet t es → ⊥)
+pub malformed_exactly : (t : List ℕ) → (sheet_of t ≡ None) ↔ ((es : List Entry) → Sheet t es → ⊥)
 malformed_exactly t = (
   λ e es s. impossible (sym e ∙ form.sheet_reads s),
   λ n. nothing_there (sheet_of t) (λ es e. n es (form.reads_sheet t es e)),
@@ -138,7 +137,7 @@ module _ (sort : Bool) (t old : List ℕ) where
   call_accepts n good = call.says_good n (call.does_call sort t old) good
 
   -- So does whatever answers and leaves as `respell` promises to.
-  pub respeller : (r : Writing) (new : List ℕ) → writing_answer r ≡ respell_answer sort t old → new ≡ respell_leaves sort t old → SheetCall sort t old (writing_answer r) new
+  pub respeller : (r : Result ℕ Refusal) (new : List ℕ) → writing_answer r ≡ respell_answer sort t old → new ≡ respell_leaves sort t old → SheetCall sort t old (writing_answer r) new
   respeller r new e f = (call_exactly (writing_answer r) new).0 (sym e, sym f)
 
 -- ---- a specimen, computed in `sheet_answers`

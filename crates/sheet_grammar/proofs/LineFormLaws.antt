@@ -1,7 +1,7 @@
 -- A line: what the form has is what is read, and what is written is the one text of its form. Assumes nothing.
+use Rattle.std.specs.Prelude.{Some}
 use mathlib.Core.Path.{◌≡◌, refl, sym, ap, ap₂, subst, ◌∙◌}
 use mathlib.Core.List.{List, ◌∷◌, ◌++◌}
-use mathlib.Core.Option.{some}
 use Prim.Native.Nat.{ℕ}
 use native.Mathlib.Omega.{arith}
 use lib.Dec.{lit≤}
@@ -33,7 +33,7 @@ line_holds (three_fields {s} {t} {u} {a} {m} {n} f p low high q most) =
       a_ph = plain_reads 1400 q (omega arith);
     }
 
-pub line_reads : {l : List ℕ} {e : Entry} → Line l e → line_entry l ≡ some e
+pub line_reads : {l : List ℕ} {e : Entry} → Line l e → line_entry l ≡ Some e
 line_reads {l} {e} f = holds_read l e (line_holds f)
 
 holds_line : (l : List ℕ) (e : Entry) → Holds l e → Line l e
@@ -44,7 +44,7 @@ holds_line l e h =
     let (ph, most) = reads_plain 1400 h.ph e.ph h.a_ph in
     subst (λ line. Line line e) (sym h.is) (three_fields (reads_0 h.address e.address (address_strict h.address e.address h.an_address).0) volume low high ph most)
 
-pub reads_line : (l : List ℕ) (e : Entry) → line_entry l ≡ some e → Line l e
+pub reads_line : (l : List ℕ) (e : Entry) → line_entry l ≡ Some e → Line l e
 reads_line l e h = holds_line l e (read_holds l e h)
 
 pub one_entry : {l : List ℕ} {e f : Entry} → Line l e → Line l f → e ≡ f

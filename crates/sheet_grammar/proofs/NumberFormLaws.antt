@@ -1,8 +1,8 @@
 -- The numbers of a line: what the rule has is what is read, and a number has one spelling. Assumes nothing.
+use Rattle.std.specs.Prelude.{Some}
 use mathlib.Core.Path.{◌≡◌, refl, sym, subst, ◌∙◌}
 use mathlib.Core.Bool.{false}
 use mathlib.Core.List.{List, [], ◌∷◌}
-use mathlib.Core.Option.{some}
 use Prim.Native.Nat.{ℕ, ◌+◌, ◌^◌, ◌≤◌, ◌<◌}
 use native.Mathlib.Decide.{dec_le}
 use native.Mathlib.Omega.{arith}
@@ -49,10 +49,10 @@ digits_plain (c ∷ d ∷ t) n h g = no_leading_0 {c = c} (let b = first_byte c 
 
 -- ---- read
 
-pub plain_reads : (m : ℕ) {t : List ℕ} {n : ℕ} → PlainNumber t n → n ≤ m → number_to m t ≡ some n
+pub plain_reads : (m : ℕ) {t : List ℕ} {n : ℕ} → PlainNumber t n → n ≤ m → number_to m t ≡ Some n
 plain_reads m {t} {n} p l = number_rest m t (plain_leading p) ∙ rw (digits_read same_10 (plain_digits p), le-leb n m l)
 
-pub reads_plain : (m : ℕ) (t : List ℕ) (n : ℕ) → number_to m t ≡ some n → PlainNumber t n × (n ≤ m)
+pub reads_plain : (m : ℕ) (t : List ℕ) (n : ℕ) → number_to m t ≡ Some n → PlainNumber t n × (n ≤ m)
 reads_plain m t n e =
     let (read, lead) = number_says m t n e in
     let (number, most) = at_most_says m n (text_number 10 t) read in

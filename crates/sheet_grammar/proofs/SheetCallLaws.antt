@@ -1,8 +1,8 @@
 -- The call that respells a sheet: what it answers and leaves is what the sentences say, case by case. Assumes nothing.
+use Rattle.std.specs.Prelude.{Some}
 use mathlib.Core.Path.{◌≡◌, refl, sym, ap, ap₂, subst, subst₂, ◌∙◌}
 use mathlib.Core.Bool.{Bool}
 use mathlib.Core.List.{List, ◌++◌}
-use mathlib.Core.Option.{some}
 use Prim.Native.Nat.{ℕ, ◌≤◌}
 use native.Mathlib.Omega.{arith}
 use lib.ListN.{length, drop}
@@ -68,7 +68,7 @@ module _ (sort : Bool) (t old : List ℕ) where
   pub does_call : SheetCall sort t old (respell_answer sort t old) (respell_leaves sort t old)
   does_call = go (refusals.outcome sort t old)
     where
-      written : (es : List Entry) → sheet_of t ≡ some es → WrittenSheet (arranged sort es) (sheet_text (arranged sort es))
+      written : (es : List Entry) → sheet_of t ≡ Some es → WrittenSheet (arranged sort es) (sheet_text (arranged sort es))
       written es is = form.sheet_written (arranged sort es) (arranged_all sort es (respell.entries_all t es is))
 
       go : {n : ℕ} → refusals.Outcomes sort t old n → SheetCall sort t old answered left

@@ -1,7 +1,7 @@
 -- A sheet: what the form has is what is read, the number of its lines, and what is written. Assumes nothing.
+use Rattle.std.specs.Prelude.{Some}
 use mathlib.Core.Path.{◌≡◌, refl, sym, ap, ap₂, subst, ◌∙◌}
 use mathlib.Core.List.{List, [], ◌∷◌, ◌++◌}
-use mathlib.Core.Option.{some}
 use Prim.Native.Nat.{ℕ, suc}
 use native.Mathlib.Omega.{arith}
 use native.Mathlib.Nat.{le_of_eq}
@@ -24,14 +24,14 @@ read_as : {t : List ℕ} {es : List Entry} → Sheet t es → read.ReadAs t es
 read_as empty = read.no_line
 read_as (line_ended {l} f s) = read.and_line l (line_reads f) (read_as s)
 
-pub sheet_reads : {t : List ℕ} {es : List Entry} → Sheet t es → sheet_of t ≡ some es
+pub sheet_reads : {t : List ℕ} {es : List Entry} → Sheet t es → sheet_of t ≡ Some es
 sheet_reads s = read.read_sheet (read_as s)
 
 as_read : {t : List ℕ} {es : List Entry} → read.ReadAs t es → Sheet t es
 as_read read.no_line = empty
 as_read (read.and_line l {e = e} h r) = line_ended (reads_line l e h) (as_read r)
 
-pub reads_sheet : (t : List ℕ) (es : List Entry) → sheet_of t ≡ some es → Sheet t es
+pub reads_sheet : (t : List ℕ) (es : List Entry) → sheet_of t ≡ Some es → Sheet t es
 reads_sheet t es e = as_read (read.sheet_read t es e)
 
 pub same_entries : {t : List ℕ} {es fs : List Entry} → Sheet t es → Sheet t fs → es ≡ fs

@@ -1,8 +1,8 @@
 -- What is read as an entry keeps the limits, and the line of an entry is read as that entry. Assumes nothing.
+use Rattle.std.specs.Prelude.{Option, Some, None}
 use mathlib.Core.Path.{◌≡◌, refl, sym, ap, ◌∙◌}
 use mathlib.Core.Bool.{Bool, true, false, cond}
 use mathlib.Core.List.{List, [], ◌∷◌, ◌++◌}
-use mathlib.Core.Option.{Option, some, none}
 use Prim.Native.Nat.{ℕ, ◌≤◌, ◌<◌}
 use native.Mathlib.Omega.{arith}
 use borrow.Author.Tests.{le-leb, le-ltb, ltb-false}
@@ -21,8 +21,7 @@ use Rattle.normal.specs.Normal.{normal_text}
 use Rattle.normal.proofs.BoundLaws.{text_most}
 use Rattle.normal.proofs.ReadBackLaws.{text_read}
 use Rattle.sheet_lines.specs.declared.Entry.{Entry}
-use Rattle.sheet_lines.specs.declared.LineReading.TheVariants.{Line, NoLine}
-use Rattle.sheet_lines.specs.Lines.{number_to, at_least, as_line, address_of, volume_of, ph_of, entry_of, fields_entry, line_entry, entry_text, IsEntry}
+use Rattle.sheet_lines.specs.Lines.{number_to, at_least, address_of, volume_of, ph_of, entry_of, fields_entry, line_entry, entry_text, IsEntry}
 use Rattle.sheet_lines.proofs.FieldLaws.{number_rest, number_most, number_lacks, least_some, least_says}
 
 -- ---- a line that holds an entry: three texts with commas between them
@@ -32,20 +31,20 @@ pub record Holds (line : List ℕ) (e : Entry) : Type 0 where
   pub volume : List ℕ
   pub ph : List ℕ
   pub is : line ≡ address ++ (44 ∷ (volume ++ (44 ∷ ph)))
-  pub an_address : address_of address ≡ some e.address
-  pub a_volume : volume_of volume ≡ some e.volume
-  pub a_ph : ph_of ph ≡ some e.ph
+  pub an_address : address_of address ≡ Some e.address
+  pub a_volume : volume_of volume ≡ Some e.volume
+  pub a_ph : ph_of ph ≡ Some e.ph
 
 -- an address that is read is strict text
-pub address_strict : (t : List ℕ) (a : Address) → address_of t ≡ some a → (strict_of 0 t ≡ some a) × (length t ≤ 64)
+pub address_strict : (t : List ℕ) (a : Address) → address_of t ≡ Some a → (strict_of 0 t ≡ Some a) × (length t ≤ 64)
 unfolding address_of
 address_strict t a e = go (ltb 64 (length t)) refl e
   where
-    go : (b : Bool) → ltb 64 (length t) ≡ b → cond b none (strict_of 0 t) ≡ some a → (strict_of 0 t ≡ some a) × (length t ≤ 64)
+    go : (b : Bool) → ltb 64 (length t) ≡ b → cond b None (strict_of 0 t) ≡ Some a → (strict_of 0 t ≡ Some a) × (length t ≤ 64)
     go true q k = impossible k
     go false q k = (k, ltb-false 64 (length t) q)
 
-pub strict_address_of : (t : List ℕ) (a : Address) → length t ≤ 64 → strict_of 0 t ≡ some a → address_of t ≡ some a
+pub strict_address_of : (t : List ℕ) (a : Address) → length t ≤ 64 → strict_of 0 t ≡ Some a → address_of t ≡ Some a
 unfolding address_of
 strict_address_of t a h e = rw (le-ltb 64 (length t) h) e
 
@@ -63,7 +62,7 @@ module _ (line : List ℕ) (e : Entry) (h : Holds line e) where
   unfolding separated digit_of
   holds_lacks = rw h.is (lacks_separated 44 10 refl (h.address ∷ h.volume ∷ h.ph ∷ []) (holds_lack 10 refl refl refl))
 
-  pub holds_read : line_entry line ≡ some e
+  pub holds_read : line_entry line ≡ Some e
   unfolding line_entry fields_entry separated digit_of
   holds_read =
       let ps = h.address ∷ h.volume ∷ h.ph ∷ [] in
@@ -84,17 +83,17 @@ module _ (line : List ℕ) (e : Entry) (h : Holds line e) where
 
 -- ---- every line that is read holds an entry
 
-fields_say : (x : Option Address) (y z : Option ℕ) (e : Entry) → entry_of x y z ≡ some e → (x ≡ some e.address) × (y ≡ some e.volume) × (z ≡ some e.ph)
-fields_say none y z e k = impossible k
-fields_say (some x) none z e k = impossible k
-fields_say (some x) (some y) none e k = impossible k
-fields_say (some x) (some y) (some z) e k = let is = same_value k in (ap (λ r. some r.address) is, ap (λ r. some r.volume) is, ap (λ r. some r.ph) is)
+fields_say : (x : Option Address) (y z : Option ℕ) (e : Entry) → entry_of x y z ≡ Some e → (x ≡ Some e.address) × (y ≡ Some e.volume) × (z ≡ Some e.ph)
+fields_say None y z e k = impossible k
+fields_say (Some x) None z e k = impossible k
+fields_say (Some x) (Some y) None e k = impossible k
+fields_say (Some x) (Some y) (Some z) e k = let is = same_value k in (ap (λ r. Some r.address) is, ap (λ r. Some r.volume) is, ap (λ r. Some r.ph) is)
 
-pub read_holds : (line : List ℕ) (e : Entry) → line_entry line ≡ some e → Holds line e
+pub read_holds : (line : List ℕ) (e : Entry) → line_entry line ≡ Some e → Holds line e
 unfolding line_entry fields_entry separated
 read_holds line e h = go (split_on 44 line) refl h
   where
-    go : (ps : List (List ℕ)) → split_on 44 line ≡ ps → fields_entry ps ≡ some e → Holds line e
+    go : (ps : List (List ℕ)) → split_on 44 line ≡ ps → fields_entry ps ≡ Some e → Holds line e
     go [] q k = impossible k
     go (a ∷ []) q k = impossible k
     go (a ∷ v ∷ []) q k = impossible k
@@ -103,12 +102,12 @@ read_holds line e h = go (split_on 44 line) refl h
         record { address = a; volume = v; ph = p; is = sym (separated_split 44 line) ∙ ap (separated 44) q; an_address = s.0; a_volume = s.1; a_ph = s.2 }
     go (a ∷ v ∷ p ∷ r ∷ ps) q k = impossible k
 
-pub line_is : (line : List ℕ) (e : Entry) → line_entry line ≡ some e → IsEntry e
+pub line_is : (line : List ℕ) (e : Entry) → line_entry line ≡ Some e → IsEntry e
 line_is line e h = holds_is line e (read_holds line e h)
 
 -- ---- the line of an entry
 
-number_back : (m n : ℕ) → n ≤ m → m < 10000000000 → number_to m (numeral 10 10 n) ≡ some n
+number_back : (m n : ℕ) → n ≤ m → m < 10000000000 → number_to m (numeral 10 10 n) ≡ Some n
 number_back m n l h =
     number_rest m (numeral 10 10 n) (numeral_leading 10 10 n (lit≤ tt) (lit< tt) (lit≤ tt))
     ∙ rw (numeral_read 10 10 n (lit≤ tt) (lit< tt) (lit≤ tt) (omega arith), le-leb n m l)
@@ -127,7 +126,7 @@ module _ (e : Entry) (h : IsEntry e) where
         a_ph = number_back 1400 e.ph (omega (arith, h.ph)) (lit< tt);
       }
 
-  pub entry_back : line_entry (entry_text e) ≡ some e
+  pub entry_back : line_entry (entry_text e) ≡ Some e
   entry_back = holds_read (entry_text e) e entry_holds
 
   pub entry_lacks : Lacks 10 (entry_text e)
@@ -135,10 +134,10 @@ module _ (e : Entry) (h : IsEntry e) where
 
 -- ---- what the code's answers say
 
-pub line_says : (o : Option Entry) (e : Entry) → Line e ≡ as_line o → o ≡ some e
-line_says none e h = let z : ◌≡◌ {A = ℕ} 0 1 = cc in absurd (omega arith)
-line_says (some f) e h = cc
+pub line_says : (o : Option Entry) (e : Entry) → Some e ≡ o → o ≡ Some e
+line_says None e h = let z : ◌≡◌ {A = ℕ} 0 1 = cc in absurd (omega arith)
+line_says (Some f) e h = cc
 
-pub no_line_says : (o : Option Entry) → NoLine ≡ as_line o → o ≡ none
-no_line_says none h = refl
-no_line_says (some f) h = let z : ◌≡◌ {A = ℕ} 0 1 = cc in absurd (omega arith)
+pub no_line_says : (o : Option Entry) → None ≡ o → o ≡ None
+no_line_says None h = refl
+no_line_says (Some f) h = let z : ◌≡◌ {A = ℕ} 0 1 = cc in absurd (omega arith)

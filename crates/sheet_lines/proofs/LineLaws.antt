@@ -1,7 +1,7 @@
 -- A line cut at its commas. Assumes nothing.
+use Rattle.std.specs.Prelude.{None}
 use mathlib.Core.Path.{◌≡◌, refl, sym, ap, ◌∙◌}
 use mathlib.Core.List.{List, ◌∷◌}
-use mathlib.Core.Option.{none}
 use Prim.Native.Nat.{ℕ, suc, ◌+◌, ◌≤◌, ◌<◌}
 use native.Mathlib.Numerals.{add-one}
 use native.Mathlib.Decide.{dec_lt}
@@ -31,7 +31,7 @@ last_field a v t = elim (dec_lt (index_of 44 t) (length t)) [
 
 module _ (t : List ℕ) (i : ℕ) (at : i ≡ index_of 44 t) where
   -- no comma
-  pub line_none : length t ≤ i → line_entry t ≡ none
+  pub line_none : length t ≤ i → line_entry t ≡ None
   unfolding line_entry
   line_none h = ap fields_entry (split_last 44 t (omega arith))
 
@@ -40,7 +40,7 @@ module _ (t : List ℕ) (i : ℕ) (at : i ≡ index_of 44 t) where
     line_first = rw (to_end (i + 1) t, add-one i, at) (split_found 44 t (omega arith))
 
     -- one comma
-    pub line_one : length (tail (i + 1) t) ≤ j → line_entry t ≡ none
+    pub line_one : length (tail (i + 1) t) ≤ j → line_entry t ≡ None
     unfolding line_entry
     line_one l = ap fields_entry (line_first ∙ ap (λ ps. take i t ∷ ps) (split_last 44 (tail (i + 1) t) (omega arith)))
 

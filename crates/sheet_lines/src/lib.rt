@@ -1,15 +1,14 @@
 // A line of the acidity sheet: an address, a volume and a pH, read and written.
 #![tactic(auto)]
 
-ghost use Rattle.std.specs.Prelude.{◌≡◌, ◌<◌, length};
-ghost use Rattle.std.proofs.Math.Option.{some};
+ghost use Rattle.std.specs.Prelude.{◌≡◌, ◌<◌, length, Some};
 ghost use Rattle.digits.specs.Numerals.{as_leading, leading_zero, numeral};
 ghost use Rattle.output.specs.Placing.{Puts};
-ghost use Rattle.sheet_lines.specs.Lines.{number_to, address_of, volume_of, ph_of, entry_of, line_entry, as_line, entry_line};
+ghost use Rattle.sheet_lines.specs.Lines.{number_to, address_of, volume_of, ph_of, entry_of, line_entry, entry_line};
 ghost use Rattle.sheet_lines.specs.Inner.{digit_at};
 
-use address::{Address, Reading};
-use digits::read::{Leading, find, leading_number};
+use address::Address;
+use digits::read::{find, leading_number};
 use normal::put_address;
 use output::{put, put_if};
 use text::read_address;
@@ -20,13 +19,6 @@ pub struct Entry {
     pub address: Address,
     pub volume: u32,
     pub ph: u16,
-}
-
-// What a line is read as.
-#[derive(Clone, Copy)]
-pub enum LineReading {
-    Line(Entry),
-    NoLine,
 }
 
 // ---- read
@@ -42,63 +34,55 @@ fn leading_zero(text: &[u8]) -> bool
 }
 
 // A whole text that is a decimal number of at most `most`, with no leading zero but in `0`: the number, and how many digits it has.
-fn whole_number(text: &[u8], most: u32) -> Leading
+fn whole_number(text: &[u8], most: u32) -> Option<(u32, usize)>
     ensures { result ≡ as_leading (number_to most text.now) (length text.now) }
 {
     if leading_zero(text) {
-        return Leading::Nothing;
+        return None;
     }
-    let Leading::Number(value, count) = leading_number(text, 10, most) else {
-        return Leading::Nothing;
-    };
+    let (value, count) = leading_number(text, 10, most)?;
     if count < text.len() {
-        return Leading::Nothing;
+        return None;
     }
-    Leading::Number(value, count)
+    Some((value, count))
 }
 
 // The entry of an address and the texts of a volume and a pH.
-fn read_numbers(address: Address, volume: &[u8], ph: &[u8]) -> LineReading
-    ensures { result ≡ as_line (entry_of (some address) (volume_of volume.now) (ph_of ph.now)) }
+fn read_numbers(address: Address, volume: &[u8], ph: &[u8]) -> Option<Entry>
+    ensures { result ≡ (entry_of (Some address) (volume_of volume.now) (ph_of ph.now)) }
 {
-    let Leading::Number(v, _) = whole_number(volume, 999999) else {
-        return LineReading::NoLine;
-    };
-    if v < 1 {
-        return LineReading::NoLine;
+    let (volume, _) = whole_number(volume, 999999)?;
+    if volume < 1 {
+        return None;
     }
-    let Leading::Number(p, _) = whole_number(ph, 1400) else {
-        return LineReading::NoLine;
-    };
-    LineReading::Line(Entry {
+    let (ph, _) = whole_number(ph, 1400)?;
+    Some(Entry {
         address,
-        volume: v,
-        ph: p as u16,
+        volume,
+        ph: ph as u16,
     })
 }
 
 // The entry of three texts.
-fn read_fields(address: &[u8], volume: &[u8], ph: &[u8]) -> LineReading
-    ensures { result ≡ as_line (entry_of (address_of address.now) (volume_of volume.now) (ph_of ph.now)) }
+fn read_fields(address: &[u8], volume: &[u8], ph: &[u8]) -> Option<Entry>
+    ensures { result ≡ (entry_of (address_of address.now) (volume_of volume.now) (ph_of ph.now)) }
 {
-    let Reading::Read(a) = read_address(address, 0) else {
-        return LineReading::NoLine;
-    };
-    read_numbers(a, volume, ph)
+    let address = read_address(address, 0).ok()?;
+    read_numbers(address, volume, ph)
 }
 
 // The entry of a line, which is handed in without its newline.
-pub fn read_line(line: &[u8]) -> LineReading
-    ensures { result ≡ as_line (line_entry line.now) }
+pub fn read_line(line: &[u8]) -> Option<Entry>
+    ensures { result ≡ (line_entry line.now) }
 {
     let first = find(line, b',');
     if line.len() <= first {
-        return LineReading::NoLine;
+        return None;
     }
     let rest = &line[first + 1..];
     let second = find(rest, b',');
     if rest.len() <= second {
-        return LineReading::NoLine;
+        return None;
     }
     read_fields(&line[..first], &rest[..second], &rest[second + 1..])
 }

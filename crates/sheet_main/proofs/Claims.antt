@@ -1,4 +1,5 @@
 -- What is claimed of the sheet program. Assumes nothing.
+use Rattle.std.specs.declared.io.Error.{Error}
 use mathlib.Core.Path.{◌≡◌}
 use mathlib.Core.Logic.{◌↔◌, ◌⊎◌}
 use mathlib.Core.Bool.{Bool, true, false}
@@ -6,7 +7,7 @@ use mathlib.Core.List.{List, []}
 use Prim.Native.Nat.{ℕ, ◌-◌, ◌<◌}
 use lib.ListN.{length, take}
 use Rattle.program_io.specs.declared.Got.TheVariants.{Bytes, Failed}
-use Rattle.program_io.specs.Calls.{brought_of}
+use Rattle.program_io.specs.Calls.{brought_of, Filled}
 use Rattle.sheet_answers.specs.SheetAnswers.{sheet_refusal, respelled}
 use Rattle.sheet_notes.specs.SheetNotes.{refused_note}
 use Rattle.sheet_main.specs.declared.Run.{Run}
@@ -39,14 +40,14 @@ module _ {n : ℕ} {r : Run} {input : List ℕ} (c : Chain n r input) where
   full = chains.full c
 
   -- and it could not be read exactly if the last read failed: that is never the end.
-  pub unread : (r.end ≡ Unread) ↔ (last_got c ≡ Failed)
+  pub unread : (r.end ≡ Unread) ↔ ((why : Error) × (last_got c ≡ Failed why))
   unread = (chains.unread c, chains.failed c)
 
--- What the last read has brought is what its answer says.
+-- What the last read has brought is what its answer says, and no more bytes than there was room for.
 pub last_read : {n : ℕ} {run r : Run} {old new : List ℕ} (c : Chain n run old) (m : run.end ≡ More) (t : Turns run old new r)
-    → last_got (more c m t) ≡ brought_of t.answer t.interrupted (65537 - run.len)
+    → (last_got (more c m t) ≡ brought_of t.answer) × Filled (65537 - run.len) (last_got (more c m t))
 unfolding last_got
-last_read c m t = t.brings
+last_read c m t = (t.brings, t.within)
 
 -- ---- what is written
 
@@ -105,5 +106,5 @@ module _ (sort explain : Bool) (name input : List ℕ) (r : InputAnswer) (a : An
   input_refused = inputs.input_refused sort explain name input r a
 
   -- Where a read failed no byte is counted as written, and the status is 2.
-  pub part_unanswered : last_got a.reads.chain ≡ Failed → (r.status ≡ 2) × (r.answered.moved ≡ 0)
+  pub part_unanswered : (why : Error) → last_got a.reads.chain ≡ Failed why → (r.status ≡ 2) × (r.answered.moved ≡ 0)
   part_unanswered = inputs.part_unanswered sort explain name input r a

@@ -1,4 +1,5 @@
 -- What the status of an input says of the bytes that its reads have brought. Assumes nothing.
+use Rattle.std.specs.declared.io.Error.{Error}
 use mathlib.Core.Path.{◌≡◌, sym, ap, subst, ◌∙◌}
 use mathlib.Core.Bool.{Bool, true, false, false≢true}
 use mathlib.Core.List.{List}
@@ -50,7 +51,7 @@ module _ (sort explain : Bool) (name input : List ℕ) (r : InputAnswer) (a : An
       all_told sort explain name _ r.answered (answers_all s.0) s.2 s.1
 
   -- a read that failed
-  pub part_unanswered : last_got a.reads.chain ≡ Failed → (r.status ≡ 2) × (r.answered.moved ≡ 0)
-  part_unanswered f =
-      let e = failed a.reads.chain f in
+  pub part_unanswered : (why : Error) → last_got a.reads.chain ≡ Failed why → (r.status ≡ 2) × (r.answered.moved ≡ 0)
+  part_unanswered why f =
+      let e = failed a.reads.chain (why, f) in
       (a.is ∙ ap (λ x. status_of x r.answered.refused r.answered.left) e, (a.answers.part (ap is_whole e)).1)

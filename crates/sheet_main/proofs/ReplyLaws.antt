@@ -1,8 +1,8 @@
 -- What is to be written for a sheet, as it stands in the buffers. Assumes nothing.
+use Rattle.std.specs.Prelude.{Option, Some, None}
 use mathlib.Core.Path.{◌≡◌, refl, sym, ap, ◌∙◌}
 use mathlib.Core.Bool.{Bool, true, false, not}
 use mathlib.Core.List.{List, []}
-use mathlib.Core.Option.{Option, some, none}
 use Prim.Native.Nat.{ℕ, ◌+◌, ◌≤◌, ◌<◌}
 use native.Mathlib.Decide.{dec_lt}
 use native.Mathlib.Omega.{arith}
@@ -62,8 +62,8 @@ module _ (sort : Bool) (t old : List ℕ) (room : length old ≡ 53248) where
   ]
     where
       read : (o : Option (List Entry)) → sheet_of t ≡ o → length t ≤ 65536 → length (sheet_lines t) ≤ 1024 → (respell_answer sort t old).number ≡ sheet_refusal t
-      read none e short few = (number_2 sort t old).1 (short, few, e) ∙ sym (malformed t short few e)
-      read (some es) e short few = room_for_all sort t es e few short old (omega (arith, room)) ∙ sym (not_refused t short few es e)
+      read None e short few = (number_2 sort t old).1 (short, few, e) ∙ sym (malformed t short few e)
+      read (Some es) e short few = room_for_all sort t es e few short old (omega (arith, room)) ∙ sym (not_refused t short few es e)
 
   module _ (explain : Bool) (name note : List ℕ) (new : List ℕ) where
     pub reply_written : (n : ℕ) → gives n ≡ respell_answer sort t old → new ≡ respell_leaves sort t old

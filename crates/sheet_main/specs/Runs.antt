@@ -1,8 +1,9 @@
 -- What the sheet program does with an input: how it is read, what is written, and the status. Assumes nothing.
-use Rattle.std.specs.Prelude.{◌≡◌, Bool, true, false, cond, not, List, [], ◌++◌, ℕ, ◌+◌, ◌-◌, ◌≤◌, eqb, ltb, ℤ, length, take, drop}
+use Rattle.std.specs.Prelude.{◌≡◌, Bool, true, false, cond, not, List, [], ◌++◌, ℕ, ◌+◌, ◌-◌, ◌≤◌, eqb, ltb, length, take, drop, Result}
+use Rattle.std.specs.declared.io.Error.{Error}
 use Rattle.program_io.specs.declared.Got.{Got}
 use Rattle.program_io.specs.declared.Got.TheVariants.{Bytes, Again, Failed}
-use Rattle.program_io.specs.Calls.{brought_of}
+use Rattle.program_io.specs.Calls.{brought_of, Filled}
 use Rattle.sheet_answers.specs.SheetAnswers.{sheet_refusal, respelled}
 use Rattle.sheet_notes.specs.SheetNotes.{refused_note}
 use Rattle.sheet_main.specs.declared.End.{End}
@@ -25,15 +26,15 @@ reached n = record { len = n; end = cond (ltb n 65537) More Full }
 -- What is done with what a read has brought: it is kept behind what was read before. Only a read that brought nothing ends the input.
 abbrev pub after_read : Run → Got → Run
 after_read run Again = run
-after_read run Failed = record { len = run.len; end = Unread }
+after_read run (Failed why) = record { len = run.len; end = Unread }
 after_read run (Bytes n) = cond (eqb n 0) (record { len = run.len; end = Ended }) (reached (run.len + n))
 
 -- A turn, as of a call that answered so on the room that is left: what was read before stays.
 pub record Turns (run : Run) (old new : List ℕ) (r : Run) : Type 0 where
-  pub answer : ℤ
-  pub interrupted : Bool
+  pub answer : Result ℕ Error
   pub got : Got
-  pub brings : got ≡ brought_of answer interrupted (65537 - run.len)
+  pub brings : got ≡ brought_of answer
+  pub within : Filled (65537 - run.len) got
   pub kept : take run.len new ≡ take run.len old
   pub next : r ≡ after_read run got
 
@@ -55,7 +56,7 @@ pub data Chain : ℕ → Run → List ℕ → Type 0 where
 abbrev pub piece_of : Run → Got → List ℕ → List ℕ
 piece_of run (Bytes n) input = take n (drop run.len input)
 piece_of run Again input = []
-piece_of run Failed input = []
+piece_of run (Failed why) input = []
 
 -- all that the reads have brought, one piece behind the other, each as it stood when it was read
 unfoldable pub gathered : {n : ℕ} {r : Run} {input : List ℕ} → Chain n r input → List ℕ

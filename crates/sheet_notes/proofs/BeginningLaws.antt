@@ -1,8 +1,8 @@
 -- The first lines of a sheet: how many bytes and lines they have, and what they hold. Assumes nothing.
+use Rattle.std.specs.Prelude.{Option, Some, None}
 use mathlib.Core.Path.{◌≡◌, refl, sym, ap, subst, ◌∙◌}
 use mathlib.Core.Bool.{Bool, true, false}
 use mathlib.Core.List.{List, [], ◌∷◌, ◌++◌}
-use mathlib.Core.Option.{Option, some, none}
 use Prim.Native.Nat.{ℕ, zero, suc, ◌≤◌, ◌<◌}
 use native.Mathlib.Decide.{dec_lt}
 use native.Mathlib.Omega.{arith}
@@ -159,17 +159,17 @@ lines_all (suc k) t l = go (begins t) l (lines_all k)
 -- ---- what they hold
 
 -- the good lines are a sheet
-pub good_held : (k : ℕ) (t : List ℕ) → k ≤ good t → (es : List Entry) × (sheet_of (first_lines k t) ≡ some es)
+pub good_held : (k : ℕ) (t : List ℕ) → k ≤ good t → (es : List Entry) × (sheet_of (first_lines k t) ≡ Some es)
 good_held zero t l = ([], ap sheet_of (first_none t) ∙ no_entries)
 good_held (suc k) t l = go (begins t) l (good_held k)
   where
-    held : (o : Option Entry) (t : List ℕ) → suc k ≤ one_more o (good t) → ((u : List ℕ) → k ≤ good u → (es : List Entry) × (sheet_of (first_lines k u) ≡ some es))
-        → (es : List Entry) × (before o (sheet_of (first_lines k t)) ≡ some es)
-    held none t m r = absurd (omega arith)
-    held (some e) t m r = let s = r t (omega arith) in (e ∷ s.0, ap (before (some e)) s.1)
+    held : (o : Option Entry) (t : List ℕ) → suc k ≤ one_more o (good t) → ((u : List ℕ) → k ≤ good u → (es : List Entry) × (sheet_of (first_lines k u) ≡ Some es))
+        → (es : List Entry) × (before o (sheet_of (first_lines k t)) ≡ Some es)
+    held None t m r = absurd (omega arith)
+    held (Some e) t m r = let s = r t (omega arith) in (e ∷ s.0, ap (before (Some e)) s.1)
 
-    go : {t : List ℕ} → Begins t → suc k ≤ good t → ((u : List ℕ) → k ≤ good u → (es : List Entry) × (sheet_of (first_lines k u) ≡ some es))
-        → (es : List Entry) × (sheet_of (first_lines (suc k) t) ≡ some es)
+    go : {t : List ℕ} → Begins t → suc k ≤ good t → ((u : List ℕ) → k ≤ good u → (es : List Entry) × (sheet_of (first_lines k u) ≡ Some es))
+        → (es : List Entry) × (sheet_of (first_lines (suc k) t) ≡ Some es)
     go nothing m r = absurd (omega (arith, m, good_none))
     go (unfinished p h l) m r = absurd (omega (arith, m, good_last p (index_of 10 p) refl (omega (arith, index_none 10 p h))))
     go (line p t h) m r =
@@ -177,21 +177,21 @@ good_held (suc k) t l = go (begins t) l (good_held k)
         (s.0, ap sheet_of (first_line k p t h) ∙ after_entries p (first_lines k t) h ∙ s.1)
 
 -- and with one more they are none, where the whole is none
-bad_step : (n : ℕ) → ((u : List ℕ) → suc (good u) ≡ n → sheet_of u ≡ none → sheet_of (first_lines n u) ≡ none)
-    → {t : List ℕ} → Begins t → good t ≡ n → sheet_of t ≡ none → sheet_of (first_lines (suc n) t) ≡ none
+bad_step : (n : ℕ) → ((u : List ℕ) → suc (good u) ≡ n → sheet_of u ≡ None → sheet_of (first_lines n u) ≡ None)
+    → {t : List ℕ} → Begins t → good t ≡ n → sheet_of t ≡ None → sheet_of (first_lines (suc n) t) ≡ None
 bad_step n r nothing g z = ap sheet_of (first_empty (suc n)) ∙ z
 bad_step n r (unfinished p h l) g z = ap sheet_of (first_unfinished n p h) ∙ z
 bad_step n r (line p t h) g z =
     ap sheet_of (first_line n p t h) ∙ after_entries p (first_lines n t) h ∙ held (line_entry p) (sym (good_after p t h) ∙ g) (sym (after_entries p t h) ∙ z)
   where
-    rest_none : (e : Entry) (o : Option (List Entry)) → before (some e) o ≡ none → o ≡ none
-    rest_none e none z = refl
-    rest_none e (some es) z = let y : ◌≡◌ {A = ℕ} 0 1 = cc in absurd (omega arith)
+    rest_none : (e : Entry) (o : Option (List Entry)) → before (Some e) o ≡ None → o ≡ None
+    rest_none e None z = refl
+    rest_none e (Some es) z = let y : ◌≡◌ {A = ℕ} 0 1 = cc in absurd (omega arith)
 
-    held : (o : Option Entry) → one_more o (good t) ≡ n → before o (sheet_of t) ≡ none → before o (sheet_of (first_lines n t)) ≡ none
-    held none m z = refl
-    held (some e) m z = ap (before (some e)) (r t (omega arith) (rest_none e (sheet_of t) z))
+    held : (o : Option Entry) → one_more o (good t) ≡ n → before o (sheet_of t) ≡ None → before o (sheet_of (first_lines n t)) ≡ None
+    held None m z = refl
+    held (Some e) m z = ap (before (Some e)) (r t (omega arith) (rest_none e (sheet_of t) z))
 
-pub bad_held : (n : ℕ) (t : List ℕ) → good t ≡ n → sheet_of t ≡ none → sheet_of (first_lines (suc n) t) ≡ none
+pub bad_held : (n : ℕ) (t : List ℕ) → good t ≡ n → sheet_of t ≡ None → sheet_of (first_lines (suc n) t) ≡ None
 bad_held zero t = bad_step zero (λ u e z. absurd (omega (arith, e))) (begins t)
 bad_held (suc n) t = bad_step (suc n) (λ u e. bad_held n u (omega (arith, e))) (begins t)

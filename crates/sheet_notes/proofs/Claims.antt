@@ -1,9 +1,9 @@
 -- What is claimed of the note on a refused sheet. Assumes nothing.
+use Rattle.std.specs.Prelude.{None}
 use mathlib.Core.Path.{◌≡◌, refl}
 use mathlib.Core.Logic.{◌↔◌}
 use mathlib.Core.Bool.{Bool, true, false}
 use mathlib.Core.List.{List, [], ◌∷◌, ◌++◌}
-use mathlib.Core.Option.{none}
 use Prim.Native.Nat.{ℕ, suc, ◌+◌, ◌≤◌, ◌<◌}
 use lib.ListN.{length, take}
 use Rattle.notation.specs.Ascii.{ascii}
@@ -39,7 +39,7 @@ breaks_1_exactly = faults.breaks_1_exactly
 pub breaks_10_exactly : (t : List ℕ) → (breaks 10 t ≡ true) ↔ (most_lines < length (sheet_lines t))
 breaks_10_exactly = faults.breaks_10_exactly
 
-pub breaks_2_exactly : (t : List ℕ) → (breaks 2 t ≡ true) ↔ (sheet_of t ≡ none)
+pub breaks_2_exactly : (t : List ℕ) → (breaks 2 t ≡ true) ↔ (sheet_of t ≡ None)
 breaks_2_exactly = faults.breaks_2_exactly
 
 -- The line that is told of a refused sheet is the first with which the sheet breaks the rule of its number, a line of the sheet,

@@ -1,10 +1,10 @@
 -- The line at fault is the first with which the sheet breaks the rule of its number, and of a sheet that is too long the first 65,537 bytes tell all.
 -- Assumes nothing.
+use Rattle.std.specs.Prelude.{Option, Some, None}
 use mathlib.Core.Path.{◌≡◌, refl, sym, ap, subst, ◌∙◌}
 use mathlib.Core.Logic.{◌↔◌, ◌⊎◌, inl, inr, ⊎_elim}
 use mathlib.Core.Bool.{Bool, true, false, false≢true}
 use mathlib.Core.List.{List}
-use mathlib.Core.Option.{Option, some, none}
 use Prim.Native.Nat.{ℕ, ◌+◌, ◌≤◌, ◌<◌}
 use native.Mathlib.Numerals.{add-one}
 use native.Mathlib.Decide.{dec_le, dec_lt}
@@ -61,12 +61,12 @@ module _ (t : List ℕ) where
   pub breaks_10_exactly : (breaks 10 t ≡ true) ↔ (most_lines < length (sheet_lines t))
   breaks_10_exactly = (λ b. ltb-true most_lines (length (sheet_lines t)) (sym (breaks_10 t) ∙ b), λ h. breaks_10 t ∙ lt-ltb most_lines (length (sheet_lines t)) h)
 
-  pub breaks_2_exactly : (breaks 2 t ≡ true) ↔ (sheet_of t ≡ none)
+  pub breaks_2_exactly : (breaks 2 t ≡ true) ↔ (sheet_of t ≡ None)
   breaks_2_exactly = (λ b. none_there (sheet_of t) (sym (breaks_2 t) ∙ b), λ z. breaks_2 t ∙ ap missing z)
     where
-      none_there : (o : Option (List Entry)) → missing o ≡ true → o ≡ none
-      none_there none h = refl
-      none_there (some es) h = absurd (false≢true h)
+      none_there : (o : Option (List Entry)) → missing o ≡ true → o ≡ None
+      none_there None h = refl
+      none_there (Some es) h = absurd (false≢true h)
 
 -- ---- the first line at fault
 

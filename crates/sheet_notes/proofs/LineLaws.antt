@@ -1,8 +1,8 @@
 -- The line at fault, as the code finds it. Assumes nothing.
+use Rattle.std.specs.Prelude.{Some, None, Option}
 use mathlib.Core.Path.{◌≡◌, refl, sym, ap, ◌∙◌}
 use mathlib.Core.Bool.{cond, Bool, true, false}
 use mathlib.Core.List.{List, [], ◌∷◌, ◌++◌}
-use mathlib.Core.Option.{some, none}
 use Prim.Native.Nat.{ℕ, ◌+◌, ◌*◌, ◌≤◌, ◌<◌}
 use native.Mathlib.Numerals.{add-one}
 use native.Mathlib.Omega.{arith}
@@ -15,9 +15,7 @@ use Rattle.notation.proofs.PieceLaws.{split_found, split_last, split_first}
 use Rattle.notation.proofs.SeparatedLaws.{index_seam, seam}
 use Rattle.notation.proofs.SliceLaws.{tail, to_end, none_left}
 use Rattle.sheet_lines.specs.declared.Entry.{Entry}
-use Rattle.sheet_lines.specs.declared.LineReading.{LineReading}
-use Rattle.sheet_lines.specs.declared.LineReading.TheVariants.{Line, NoLine}
-use Rattle.sheet_lines.specs.Lines.{fields_entry, line_entry, as_line}
+use Rattle.sheet_lines.specs.Lines.{fields_entry, line_entry}
 use Rattle.sheet_lines.proofs.EntryLaws.{line_says, no_line_says}
 use Rattle.sheet_answers.specs.SheetAnswers.{most_bytes, most_lines}
 use Rattle.sheet_notes.specs.SheetNotes.{newlines, excess_line, one_more, good_lines, malformed_line, fault_line}
@@ -107,12 +105,12 @@ good_after p t h =
     ∙ ap (λ r. one_more (line_entry p) (good r)) (to_end (i + 1) w ∙ ap (λ (k : ℕ). drop k w) (add-one i) ∙ s.2)
 
 -- an empty line is malformed
-empty_line : line_entry [] ≡ none
+empty_line : line_entry [] ≡ None
 unfolding line_entry fields_entry split_on
 empty_line = refl
 
 -- a line that is read has a byte
-line_bytes : (t : List ℕ) (e : Entry) → line_entry t ≡ some e → 0 < length t
+line_bytes : (t : List ℕ) (e : Entry) → line_entry t ≡ Some e → 0 < length t
 line_bytes [] e h = let z : ◌≡◌ {A = ℕ} 0 1 = cc empty_line in absurd (omega arith)
 line_bytes (x ∷ t) e h = omega arith
 
@@ -133,11 +131,11 @@ module _ {t rest : List ℕ} {line : ℕ} (p : Passed t rest line) where
     pub pass_last : length rest ≤ i → line ≡ malformed_line t
     pass_last h = omega (arith, p.is, good_last rest i at h)
 
-    module _ (h : i < length rest) {r : LineReading} (reads : r ≡ as_line (line_entry (take i rest))) where
-      pub pass_bad : r ≡ NoLine → line ≡ malformed_line t
+    module _ (h : i < length rest) {r : Option Entry} (reads : r ≡ (line_entry (take i rest))) where
+      pub pass_bad : r ≡ None → line ≡ malformed_line t
       pass_bad e = omega (arith, p.is, good_found rest i at h, ap (λ o. one_more o (good (tail (i + 1) rest))) (no_line_says (line_entry (take i rest)) (sym e ∙ reads)))
 
-      pub pass_on : (e : Entry) → r ≡ Line e → Passed t (tail (i + 1) rest) (line + 1)
+      pub pass_on : (e : Entry) → r ≡ Some e → Passed t (tail (i + 1) rest) (line + 1)
       pass_on e l =
           let o = line_says (line_entry (take i rest)) e (sym l ∙ reads) in
           let some_bytes = line_bytes (take i rest) e o in

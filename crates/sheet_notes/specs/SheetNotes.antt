@@ -1,6 +1,5 @@
 -- What is told of a refused sheet (02, Req 09): its number and, on request, the line at fault. A text is the list of its bytes. Assumes nothing.
-use Rattle.std.specs.Prelude.{◌≡◌, Bool, true, false, cond, List, [], ◌∷◌, ◌++◌, ℕ, zero, suc, ◌+◌, ◌≤◌, ◌<◌, eqb, length, take}
-use Rattle.std.proofs.Math.Option.{Option, some, none}
+use Rattle.std.specs.Prelude.{◌≡◌, Bool, true, false, cond, List, [], ◌∷◌, ◌++◌, ℕ, zero, suc, ◌+◌, ◌≤◌, ◌<◌, eqb, length, take, Option, Some, None}
 use Rattle.notation.specs.Ascii.{ascii}
 use Rattle.notation.specs.Pieces.{split_on}
 use Rattle.address.specs.Answers.{holds}
@@ -25,8 +24,8 @@ excess_line t = newlines (take most_bytes t) + 1
 
 -- one more where there is an entry
 abbrev pub one_more : Option Entry → ℕ → ℕ
-one_more none n = 0
-one_more (some e) n = n + 1
+one_more None n = 0
+one_more (Some e) n = n + 1
 
 -- how many lines stand before the first that is malformed, in a text cut at its newlines; a last line without its newline is malformed
 unfoldable pub good_lines : List (List ℕ) → ℕ

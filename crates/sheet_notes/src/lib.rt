@@ -8,7 +8,7 @@ ghost use Rattle.sheet_notes.specs.SheetNotes.{excess_line, malformed_line, faul
 use digits::read::find;
 use notes::put_note;
 use output::{put, put_bytes, put_decimal};
-use sheet_lines::{LineReading, read_line};
+use sheet_lines::read_line;
 
 // How many newlines a byte is.
 fn newline(byte: u8) -> u64
@@ -25,13 +25,11 @@ fn excess_line(sheet: &[u8]) -> u64
     ensures { result ≡ excess_line sheet.now }
 {
     let mut line: u64 = 1;
-    let mut i: usize = 0;
-    while i < sheet.len() {
+    for (i, &byte) in sheet.iter().enumerate() {
         if 65536 <= i {
             return line;
         }
-        line += newline(sheet[i]);
-        i += 1;
+        line += newline(byte);
     }
     line
 }
@@ -47,7 +45,7 @@ fn malformed_line(sheet: &[u8]) -> u64
         if rest.len() <= end {
             return line;
         }
-        let LineReading::Line(_) = read_line(&rest[..end]) else {
+        let Some(_) = read_line(&rest[..end]) else {
             return line;
         };
         line += 1;

@@ -4,14 +4,13 @@
 
 ghost use Rattle.std.specs.Prelude.{◌<◌};
 
-use address::{Address, BlockReading, Reading, Refusal, Writing};
+use address::{Address, Refusal};
 use blocks::read_block;
 use loose::read_loose;
-use network::{NetworkReading, read_network, write_network};
+use network::{read_network, write_network};
 use normal::write_address;
 use octets::read_octets;
 use ranges::range_blocks;
-use records::BlocksWriting;
 use std::io::{Stdout, Write};
 use text::read_address;
 
@@ -44,57 +43,55 @@ fn say_hex(to: Stdout, bytes: &[u8], count: usize, width: usize)
     if bytes.len() < count {
         return;
     }
-    let mut i: usize = 0;
-    while i < count {
+    for (i, &byte) in bytes[..count].iter().enumerate() {
         if i % width == 0 {
             say(to, b" ");
         }
-        say_byte(to, bytes[i]);
-        i += 1;
+        say_byte(to, byte);
     }
 }
 
 // ---- ends of a line
 
 fn end_refused(to: Stdout, why: Refusal) {
-    say_number(to, b"refused ", why.number() as usize);
+    say_number(to, b"refused ", u8::from(why) as usize);
     say(to, b"\n");
 }
 
 // What a writer left in `out`.
-fn end_written(to: Stdout, written: Writing, out: &[u8]) {
+fn end_written(to: Stdout, written: Result<usize, Refusal>, out: &[u8]) {
     match written {
-        Writing::Wrote(count) => {
+        Ok(count) => {
             if count <= out.len() {
                 say(to, &out[..count]);
             }
             say(to, b"\n");
         }
-        Writing::Refused(e) => end_refused(to, e),
+        Err(e) => end_refused(to, e),
     }
 }
 
 // The normal text of the address that was read.
-fn end_reading(to: Stdout, reading: Reading) {
+fn end_reading(to: Stdout, reading: Result<Address, Refusal>) {
     match reading {
-        Reading::Read(address) => {
+        Ok(address) => {
             let mut out = [0u8; 39];
             let written = write_address(address, &mut out);
             end_written(to, written, &out);
         }
-        Reading::Refused(e) => end_refused(to, e),
+        Err(e) => end_refused(to, e),
     }
 }
 
 // The text that is written back from a size and four bytes.
 fn end_back(to: Stdout, size: u8, bytes: &[u8]) {
     match read_octets(bytes) {
-        Reading::Read(address) => {
+        Ok(address) => {
             let mut out = [0u8; 18];
             let written = write_network(address, size, &mut out);
             end_written(to, written, &out);
         }
-        Reading::Refused(e) => end_refused(to, e),
+        Err(e) => end_refused(to, e),
     }
 }
 
@@ -111,7 +108,7 @@ fn end_network(to: Stdout, size: u8, count: usize, buffer: &[u8]) {
 fn end_range(to: Stdout, first: Address, last: Address, wanted: bool) {
     let mut out = [0u8; 310];
     match range_blocks(first, last, &mut out) {
-        BlocksWriting::Wrote(blocks, bytes) => {
+        Ok((blocks, bytes)) => {
             say_number(to, b"blocks ", blocks);
             say_number(to, b", bytes ", bytes);
             if wanted {
@@ -120,7 +117,7 @@ fn end_range(to: Stdout, first: Address, last: Address, wanted: bool) {
             }
             say(to, b"\n");
         }
-        BlocksWriting::Refused(e) => end_refused(to, e),
+        Err(e) => end_refused(to, e),
     }
 }
 
@@ -141,16 +138,16 @@ fn network_form(to: Stdout, text: &[u8]) {
     say_asked(to, b"network ", text);
     let mut out = [238u8; 4];
     match read_network(text, &mut out) {
-        NetworkReading::Read(size, count) => end_network(to, size, count, &out),
-        NetworkReading::Refused(e) => end_refused(to, e),
+        Ok((size, count)) => end_network(to, size, count, &out),
+        Err(e) => end_refused(to, e),
     }
 }
 
 fn block(to: Stdout, text: &[u8]) {
     say_asked(to, b"block ", text);
     match read_block(text) {
-        BlockReading::Read(_) => say(to, b"read\n"),
-        BlockReading::Refused(e) => end_refused(to, e),
+        Ok(_) => say(to, b"read\n"),
+        Err(e) => end_refused(to, e),
     }
 }
 
@@ -159,10 +156,10 @@ fn range(to: Stdout, first: &[u8], last: &[u8], wanted: bool) {
     say(to, b"range ");
     say(to, first);
     say_asked(to, b" to ", last);
-    let Reading::Read(a) = read_address(first, 4) else {
+    let Ok(a) = read_address(first, 4) else {
         return;
     };
-    let Reading::Read(b) = read_address(last, 4) else {
+    let Ok(b) = read_address(last, 4) else {
         return;
     };
     end_range(to, a, b, wanted);

@@ -4,20 +4,16 @@
 ghost use Rattle.std.specs.Prelude.{◌≡◌};
 ghost use Rattle.address.specs.Answers.{writing_answer, write_answer, write_leaves};
 
-use address::{Refusal, Writing};
+use address::Refusal;
 
 // Stores a text at the start of `out`, where there is room for it.
-pub fn store(text: &[u8], out: &mut [u8]) -> Writing
+pub fn store(text: &[u8], out: &mut [u8]) -> Result<usize, Refusal>
     ensures { (writing_answer result ≡ write_answer 0 text.now out.old) × (out.new ≡ write_leaves 0 text.now out.old) }
 {
     let n = text.len();
     if out.len() < n {
-        return Writing::Refused(Refusal::NoRoom);
+        return Err(Refusal::NoRoom);
     }
-    let mut i: usize = 0;
-    while i < n {
-        out[i] = text[i];
-        i += 1;
-    }
-    Writing::Wrote(n)
+    out[..n].copy_from_slice(text);
+    Ok(n)
 }

@@ -1,8 +1,8 @@
 -- What the code answers, step by step. Assumes nothing.
+use Rattle.std.specs.Prelude.{Option, Some, None}
 use mathlib.Core.Path.{◌≡◌, refl, sym, ap, ◌∙◌}
 use mathlib.Core.Bool.{Bool, true, false, cond, ◌&&◌, and-eq-true_iff}
 use mathlib.Core.List.{List, [], ◌∷◌}
-use mathlib.Core.Option.{Option, some, none}
 use Prim.Native.Nat.{ℕ, zero, suc, ◌+◌, ◌-◌, ◌≤◌, ◌<◌, min, max}
 use native.Mathlib.Nat.{zero-min, min-zero, suc-min-suc}
 use native.Mathlib.Omega.{arith}
@@ -11,11 +11,11 @@ use borrow.Author.Tests.{eqb-true, eqb-false, eq-eqb, ne_eqb, le-leb, le-ltb, lt
 use lib.Dec.{eqb, ltb}
 use lib.ListN.{length, take, drop, get_or, length-take, length-drop, drop_of_length-le}
 use lib.Seq.{drop-cons, drop-drop}
-use Rattle.digits.specs.declared.read.Leading.TheVariants.{Number, Nothing}
 use Rattle.digits.specs.Numerals.{text_number, bounded_number, part_of, group_of, digit_count, as_leading, leading}
 use Rattle.digits.proofs.Claims.{group_most}
 use Rattle.digits.proofs.FirstPieceLaws.{leading_says, as_nothing}
 use Rattle.digits.proofs.LeadingLaws.{lead_from, lead_number}
+use Rattle.notation.proofs.OptionLaws.{impossible}
 use Rattle.notation.proofs.SliceLaws.{tail, to_end}
 use Rattle.strict.specs.Inner.{goes_on}
 use Rattle.place.specs.Place.{begins, piece_then, byte_then, ends, present, part_up_to, part_front, parts_place, dotted_place, group_front, behind_place, groups_place, eight_place, fault_place}
@@ -86,11 +86,11 @@ module _ (front rest : List ℕ → ℕ) (b : ℕ) (t : List ℕ) (n : ℕ) (e :
 
 -- ---- parts
 
-pub part_yes : (o : Option ℕ) (v n k : ℕ) → Number v n ≡ as_leading o k → true ≡ present o
-part_yes none v n k e = let z : ◌≡◌ {A = ℕ} 0 1 = cc in absurd (omega arith)
-part_yes (some x) v n k e = refl
+pub part_yes : (o : Option ℕ) (v n k : ℕ) → Some (v, n) ≡ as_leading o k → true ≡ present o
+part_yes None v n k e = let z : ◌≡◌ {A = ℕ} 0 1 = cc in absurd (omega arith)
+part_yes (Some x) v n k e = refl
 
-pub part_no : (o : Option ℕ) (k : ℕ) → Nothing ≡ as_leading o k → false ≡ present o
+pub part_no : (o : Option ℕ) (k : ℕ) → None ≡ as_leading o k → false ≡ present o
 part_no o k e = ap present (sym (as_nothing o k e))
 
 pub up_to_yes : (n : ℕ) (t : List ℕ) → 0 < n → present (part_of 255 (take n t)) ≡ true → part_up_to n t ≡ n
@@ -114,11 +114,11 @@ module _ (t : List ℕ) (n : ℕ) (e : n ≡ min 4 (length t)) where
   front_is : take n t ≡ take 4 t
   front_is = ap (λ n. take n t) e ∙ take_min 4 t
 
-  pub group_some : (v k : ℕ) → Number v k ≡ leading 16 (bounded_number 16 65535) (take n t) → k ≡ group_front t
+  pub group_some : (v k : ℕ) → Some (v, k) ≡ leading 16 (bounded_number 16 65535) (take n t) → k ≡ group_front t
   unfolding group_front
   group_some v k h = sym (leading_says 16 (bounded_number 16 65535) (take 4 t) v k (h ∙ ap (leading 16 (bounded_number 16 65535)) front_is)).1
 
-  pub group_none : Nothing ≡ leading 16 (bounded_number 16 65535) (take n t) → 0 ≡ group_front t
+  pub group_none : None ≡ leading 16 (bounded_number 16 65535) (take n t) → 0 ≡ group_front t
   unfolding group_front leading group_of
   group_none h = elim (dec_lt 0 (digit_count 16 (take 4 t))) [
     | yes l ↦
@@ -126,11 +126,10 @@ module _ (t : List ℕ) (n : ℕ) (e : n ≡ min 4 (length t)) where
         let k = digit_count 16 u in
         let short : ltb 4 (length (take k u)) ≡ false = le-ltb 4 (length (take k u)) (omega (arith, length-take k u, length-take 4 t)) in
         let v = lead_from 16 0 u in
-        let number : text_number 16 (take k u) ≡ some v = lead_number 16 u l in
-        let group : group_of (take k u) ≡ some v = rw short number in
-        let read : bounded_number 16 65535 (take k u) ≡ some v = rw (number, le-leb v 65535 (omega (arith, group_most (take k u) v group))) in
-        let f : Nothing ≡ Number v k = h ∙ ap (leading 16 (bounded_number 16 65535)) front_is ∙ ap (λ o. as_leading o k) read in
-        let z : ◌≡◌ {A = ℕ} 0 1 = cc in absurd (omega arith)
+        let number : text_number 16 (take k u) ≡ Some v = lead_number 16 u l in
+        let group : group_of (take k u) ≡ Some v = rw short number in
+        let read : bounded_number 16 65535 (take k u) ≡ Some v = rw (number, le-leb v 65535 (omega (arith, group_most (take k u) v group))) in
+        impossible (h ∙ ap (leading 16 (bounded_number 16 65535)) front_is ∙ ap (λ o. as_leading o k) read)
     | no l ↦ omega arith
   ]
 

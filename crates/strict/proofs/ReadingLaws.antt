@@ -1,27 +1,25 @@
 -- The reading, and the place that its refusal carries. Assumes nothing.
+use Rattle.std.specs.Prelude.{Ok, Err, Result}
 use mathlib.Core.Path.{◌≡◌, sym, ap, ◌∙◌}
 use mathlib.Core.List.{List}
 use Prim.Native.Nat.{ℕ}
 use borrow.Author.Tests.{eq-eqb, ne_eqb}
 use Rattle.address.specs.declared.Address.{Address}
 use Rattle.address.specs.declared.Refusal.{Refusal}
-use Rattle.address.specs.declared.Reading.{Reading}
-use Rattle.address.specs.declared.Reading.TheVariants as reading
 use Rattle.address.specs.Answers.{gives, refuses, refusal_number, no_address, reading_answer}
 use Rattle.text.specs.Strict.{strict_answer}
 use Rattle.place.specs.Place.{fault_place, placed_answer}
 use Rattle.strict.specs.Inner.{refused_place}
 use Rattle.strict.specs.StrictReading.{strict_reading_answer}
-use Rattle.strict.specs.declared.StrictReading.TheVariants.{Read, Refused}
 
-module _ (family : ℕ) (t : List ℕ) (r : Reading) (h : reading_answer r ≡ strict_answer family t) where
+module _ (family : ℕ) (t : List ℕ) (r : Result Address Refusal) (h : reading_answer r ≡ strict_answer family t) where
   -- an address has no place
-  pub read_placed : (a : Address) → r ≡ reading.Read a → strict_reading_answer (Read a) ≡ placed_answer family t
+  pub read_placed : (a : Address) → r ≡ Ok a → strict_reading_answer (Ok a) ≡ placed_answer family t
   unfolding placed_answer
   read_placed a e = let is : gives a ≡ strict_answer family t = ap reading_answer (sym e) ∙ h in rw (← is)
 
   -- a refusal has that of its number
-  pub refused_placed : (e : Refusal) (p : ℕ) → r ≡ reading.Refused e → p ≡ refused_place (refusal_number e) family t → strict_reading_answer (Refused e p) ≡ placed_answer family t
+  pub refused_placed : (e : Refusal) (p : ℕ) → r ≡ Err e → p ≡ refused_place (refusal_number e) family t → strict_reading_answer (Err (record { why = e; place = p })) ≡ placed_answer family t
   unfolding placed_answer
   refused_placed e p k q = let is : refuses no_address e ≡ strict_answer family t = ap reading_answer (sym k) ∙ h in rw (← is, q)
 

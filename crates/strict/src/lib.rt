@@ -9,27 +9,15 @@ ghost use Rattle.strict.specs.Inner.{goes_on, refused_place};
 ghost use Rattle.strict.specs.StrictReading.{strict_reading_answer};
 ghost use Rattle.place.specs.Place.{byte_then, begins, present, part_front, parts_place, dotted_place, group_front, behind_place, groups_place, eight_place, fault_place, placed_answer};
 
-use address::{Address, Reading, Refusal};
+use address::{Address, Refusal};
 use digits::parts::whole_part;
-use digits::read::{Leading, leading_number};
+use digits::read::leading_number;
 
-// What the strict reader answers: the address, or why not and the place of the fault, which is 0 but for `Malformed`.
+// Why a text is refused, and the place of the fault, which is 0 but for `Malformed`.
 #[derive(Clone, Copy)]
-pub enum StrictReading {
-    Read(Address),
-    Refused(Refusal, u8),
-}
-
-fn smaller(a: usize, b: usize) -> usize
-    ensures { result ≡ min a b }
-{
-    if a <= b { a } else { b }
-}
-
-fn larger(a: usize, b: usize) -> usize
-    ensures { result ≡ max a b }
-{
-    if a <= b { b } else { a }
+pub struct Fault {
+    pub why: Refusal,
+    pub place: u8,
 }
 
 // Whether a byte stands at an index.
@@ -55,7 +43,7 @@ fn goes_on(text: &[u8], n: usize, byte: u8) -> bool
 fn is_part(text: &[u8]) -> bool
     ensures { result ≡ present (part_of 255 text.now) }
 {
-    let Leading::Number(_, _) = whole_part(text, 255) else {
+    let Some((_, _)) = whole_part(text, 255) else {
         return false;
     };
     true
@@ -65,12 +53,10 @@ fn is_part(text: &[u8]) -> bool
 fn part_front(text: &[u8]) -> usize
     ensures { result ≡ part_front text.now }
 {
-    let mut n = smaller(3, text.len());
-    while 0 < n {
+    for n in (1..=text.len().min(3)).rev() {
         if is_part(&text[..n]) {
             return n;
         }
-        n -= 1;
     }
     0
 }
@@ -94,8 +80,8 @@ fn parts_place(text: &[u8], more: usize) -> usize
 fn group_front(text: &[u8]) -> usize
     ensures { result ≡ group_front text.now }
 {
-    let n = smaller(4, text.len());
-    let Leading::Number(_, count) = leading_number(&text[..n], 16, 65535) else {
+    let n = text.len().min(4);
+    let Some((_, count)) = leading_number(&text[..n], 16, 65535) else {
         return 0;
     };
     count
@@ -121,9 +107,9 @@ fn behind_place(text: &[u8], room: usize) -> usize
     }
     let dotted = parts_place(text, 3);
     if !goes_on(text, n, b':') {
-        return larger(dotted, n);
+        return dotted.max(n);
     }
-    larger(dotted, n + 1 + behind_place(&text[n + 1..], room - 1))
+    dotted.max(n + 1 + behind_place(&text[n + 1..], room - 1))
 }
 
 // The place in the second colon of `::` and what stands behind it.
@@ -146,13 +132,11 @@ fn groups_place(text: &[u8], more: usize) -> usize
     }
     let dotted = tail_place(text, more == 1);
     if !goes_on(text, n, b':') {
-        return larger(dotted, n);
+        return dotted.max(n);
     }
     let rest = &text[n + 1..];
-    larger(
-        dotted,
-        n + 1 + larger(gap_place(rest, more - 1), groups_place(rest, more - 1)),
-    )
+    let behind = gap_place(rest, more - 1).max(groups_place(rest, more - 1));
+    dotted.max(n + 1 + behind)
 }
 
 // The place in an IPv6 text.
@@ -163,7 +147,7 @@ fn eight_place(text: &[u8]) -> usize
     if !has(text, 0, b':') {
         return groups;
     }
-    larger(1 + gap_place(&text[1..], 7), groups)
+    (1 + gap_place(&text[1..], 7)).max(groups)
 }
 
 // The place in a text of family 4, of family 6, or else of either: the length of its longest beginning that some accepted text has too. A
@@ -177,25 +161,28 @@ fn fault_place(text: &[u8], family: u8) -> usize
     if family == 6 {
         return eight_place(text);
     }
-    larger(fault_place(text, 4), fault_place(text, 6))
+    fault_place(text, 4).max(fault_place(text, 6))
 }
 
 // The place that a refusal of a text carries; none is above 45.
 fn refused_place(why: Refusal, text: &[u8], family: u8) -> u8
     ensures { result ≡ refused_place (refusal_number why) family text.now }
 {
-    if why.number() != 2 {
-        return 0;
+    match why {
+        Refusal::Malformed => fault_place(text, family) as u8,
+        _ => 0,
     }
-    fault_place(text, family) as u8
 }
 
 // The address of a strict text of a family: 4, 6, or 0 for either.
-pub fn read_address(text: &[u8], family: u8) -> StrictReading
+pub fn read_address(text: &[u8], family: u8) -> Result<Address, Fault>
     ensures { strict_reading_answer result ≡ placed_answer family text.now }
 {
     match text::read_address(text, family) {
-        Reading::Read(address) => StrictReading::Read(address),
-        Reading::Refused(why) => StrictReading::Refused(why, refused_place(why, text, family)),
+        Ok(address) => Ok(address),
+        Err(why) => {
+            let place = refused_place(why, text, family);
+            Err(Fault { why, place })
+        }
     }
 }

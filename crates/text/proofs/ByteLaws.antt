@@ -1,8 +1,8 @@
 -- Which bytes a strict text holds: hex digits, dots and colons. Assumes nothing.
+use Rattle.std.specs.Prelude.{Option, Some, None, option_map}
 use mathlib.Core.Path.{◌≡◌, refl, subst}
 use mathlib.Core.Bool.{Bool, true, false, cond}
 use mathlib.Core.List.{List, [], ◌∷◌}
-use mathlib.Core.Option.{Option, some, none, map}
 use Prim.Native.Nat.{ℕ, ◌+◌, ◌<◌}
 use native.Mathlib.Omega.{arith}
 use borrow.Author.Tests.{ltb-true}
@@ -26,38 +26,38 @@ use Rattle.text.specs.Strict.{strict_of}
 
 -- a byte that is no hex digit, no dot and no colon
 module _ (b : ℕ) (digit : digit_of b ≡ 16) (dot : eqb 46 b ≡ false) (colon : eqb 58 b ≡ false) where
-  group_lacks : (p : List ℕ) (x : ℕ) → group_of p ≡ some x → Lacks b p
+  group_lacks : (p : List ℕ) (x : ℕ) → group_of p ≡ Some x → Lacks b p
   group_lacks p x e = no_digit 16 b p (lit≤ tt) digit (group_digits p x e).0.all
 
-  tail_lacks : (p gs : List ℕ) → tail_of p ≡ some gs → Lacks b p
+  tail_lacks : (p gs : List ℕ) → tail_of p ≡ Some gs → Lacks b p
   unfolding tail_of
   tail_lacks p gs e = go (dotted_of p) refl e
     where
-      go : (o : Option ℕ) → dotted_of p ≡ o → map (digits_of 65536 2) o ≡ some gs → Lacks b p
-      go none q k = impossible k
-      go (some v) q k = dotted_lacks b (omega (arith, digit)) dot p v q
+      go : (o : Option ℕ) → dotted_of p ≡ o → option_map (digits_of 65536 2) o ≡ Some gs → Lacks b p
+      go None q k = impossible k
+      go (Some v) q k = dotted_lacks b (omega (arith, digit)) dot p v q
 
-  last_lacks : (dotted : Bool) (p gs : List ℕ) → or_else (single (group_of p)) (cond dotted (tail_of p) none) ≡ some gs → Lacks b p
+  last_lacks : (dotted : Bool) (p gs : List ℕ) → or_else (single (group_of p)) (cond dotted (tail_of p) None) ≡ Some gs → Lacks b p
   last_lacks dotted p gs e = go (group_of p) refl dotted e
     where
-      go : (o : Option ℕ) → group_of p ≡ o → (d : Bool) → or_else (single o) (cond d (tail_of p) none) ≡ some gs → Lacks b p
-      go (some x) q d k = group_lacks p x q
-      go none q true k = tail_lacks p gs k
-      go none q false k = impossible k
+      go : (o : Option ℕ) → group_of p ≡ o → (d : Bool) → or_else (single o) (cond d (tail_of p) None) ≡ Some gs → Lacks b p
+      go (Some x) q d k = group_lacks p x q
+      go None q true k = tail_lacks p gs k
+      go None q false k = impossible k
 
-  pieces_lack : (dotted : Bool) (ps : List (List ℕ)) (gs : List ℕ) → pieces_of dotted ps ≡ some gs → Each (Lacks b) ps
+  pieces_lack : (dotted : Bool) (ps : List (List ℕ)) (gs : List ℕ) → pieces_of dotted ps ≡ Some gs → Each (Lacks b) ps
   unfolding pieces_of
   pieces_lack dotted [] gs e = tt
   pieces_lack dotted (p ∷ []) gs e = (last_lacks dotted p gs e, tt)
   pieces_lack dotted (p ∷ q ∷ ps) gs e = go (group_of p) refl (pieces_of dotted (q ∷ ps)) refl e (pieces_lack dotted (q ∷ ps))
     where
-      go : (o : Option ℕ) → group_of p ≡ o → (os : Option (List ℕ)) → pieces_of dotted (q ∷ ps) ≡ os → joined (single o) os ≡ some gs
-          → ((hs : List ℕ) → pieces_of dotted (q ∷ ps) ≡ some hs → Each (Lacks b) (q ∷ ps)) → Lacks b p × Each (Lacks b) (q ∷ ps)
-      go none f os r k ih = impossible k
-      go (some x) f none r k ih = impossible k
-      go (some x) f (some hs) r k ih = (group_lacks p x f, ih hs r)
+      go : (o : Option ℕ) → group_of p ≡ o → (os : Option (List ℕ)) → pieces_of dotted (q ∷ ps) ≡ os → joined (single o) os ≡ Some gs
+          → ((hs : List ℕ) → pieces_of dotted (q ∷ ps) ≡ Some hs → Each (Lacks b) (q ∷ ps)) → Lacks b p × Each (Lacks b) (q ∷ ps)
+      go None f os r k ih = impossible k
+      go (Some x) f None r k ih = impossible k
+      go (Some x) f (Some hs) r k ih = (group_lacks p x f, ih hs r)
 
-  side_lacks : (dotted : Bool) (t gs : List ℕ) → side_of dotted t ≡ some gs → Lacks b t
+  side_lacks : (dotted : Bool) (t gs : List ℕ) → side_of dotted t ≡ Some gs → Lacks b t
   unfolding side_of contains
   side_lacks dotted [] gs e = refl
   side_lacks dotted (c ∷ t) gs e = lacks_split 58 b colon (c ∷ t) (pieces_lack dotted (split_on 58 (c ∷ t)) gs e)
@@ -67,7 +67,7 @@ module _ (b : ℕ) (digit : digit_of b ≡ 16) (dot : eqb 46 b ≡ false) (colon
   unfolding contains
   gap_lacks t h l r = subst (Lacks b) (gap_text t h) (lacks_append b (take (gap_of t) t) (58 ∷ 58 ∷ drop (gap_of t + 2) t) l (rw colon r))
 
-  eight_lacks : (t gs : List ℕ) → eight_of t ≡ some gs → Lacks b t
+  eight_lacks : (t gs : List ℕ) → eight_of t ≡ Some gs → Lacks b t
   unfolding eight_of
   eight_lacks t gs e = go (ltb (gap_of t) (length t)) refl (side_of false (take (gap_of t) t)) refl (side_of true (drop (gap_of t + 2) t)) refl (side_of true t) refl e
     where
@@ -75,25 +75,25 @@ module _ (b : ℕ) (digit : digit_of b ≡ 16) (dot : eqb 46 b ≡ false) (colon
           → (l : Option (List ℕ)) → side_of false (take (gap_of t) t) ≡ l
           → (r : Option (List ℕ)) → side_of true (drop (gap_of t + 2) t) ≡ r
           → (s : Option (List ℕ)) → side_of true t ≡ s
-          → cond c (filled l r) (eight s) ≡ some gs → Lacks b t
-      go true c none p r q s u k = impossible k
-      go true c (some xs) p none q s u k = impossible k
-      go true c (some xs) p (some ys) q s u k =
+          → cond c (filled l r) (eight s) ≡ Some gs → Lacks b t
+      go true c None p r q s u k = impossible k
+      go true c (Some xs) p None q s u k = impossible k
+      go true c (Some xs) p (Some ys) q s u k =
           gap_lacks t (ltb-true (gap_of t) (length t) c) (side_lacks false (take (gap_of t) t) xs p) (side_lacks true (drop (gap_of t + 2) t) ys q)
-      go false c l p r q none u k = impossible k
-      go false c l p r q (some xs) u k = side_lacks true t xs u
+      go false c l p r q None u k = impossible k
+      go false c l p r q (Some xs) u k = side_lacks true t xs u
 
-  pub strict_lacks : (family : ℕ) (t : List ℕ) (a : Address) → strict_of family t ≡ some a → Lacks b t
+  pub strict_lacks : (family : ℕ) (t : List ℕ) (a : Address) → strict_of family t ≡ Some a → Lacks b t
   unfolding strict_of
   strict_lacks family t a e = go (eqb family 6) (eqb family 4) (dotted_of t) refl (eight_of t) refl e
     where
-      six : (p : Bool) (o : Option (List ℕ)) → eight_of t ≡ o → cond p none (map groups_address o) ≡ some a → Lacks b t
+      six : (p : Bool) (o : Option (List ℕ)) → eight_of t ≡ o → cond p None (option_map groups_address o) ≡ Some a → Lacks b t
       six true o q k = impossible k
-      six false none q k = impossible k
-      six false (some gs) q k = eight_lacks t gs q
+      six false None q k = impossible k
+      six false (Some gs) q k = eight_lacks t gs q
 
       go : (p q : Bool) (d : Option ℕ) → dotted_of t ≡ d → (o : Option (List ℕ)) → eight_of t ≡ o
-          → or_else (cond p none (map V4 d)) (cond q none (map groups_address o)) ≡ some a → Lacks b t
+          → or_else (cond p None (option_map V4 d)) (cond q None (option_map groups_address o)) ≡ Some a → Lacks b t
       go true q d r o u k = six q o u k
-      go false q none r o u k = six q o u k
-      go false q (some v) r o u k = dotted_lacks b (omega (arith, digit)) dot t v r
+      go false q None r o u k = six q o u k
+      go false q (Some v) r o u k = dotted_lacks b (omega (arith, digit)) dot t v r

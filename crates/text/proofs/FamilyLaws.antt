@@ -1,8 +1,8 @@
 -- What a strict text of each family holds, so that no text is of both. Assumes nothing.
+use Rattle.std.specs.Prelude.{Option, Some, None, option_map}
 use mathlib.Core.Path.{◌≡◌, refl}
 use mathlib.Core.Bool.{true, false}
 use mathlib.Core.List.{List}
-use mathlib.Core.Option.{Option, some, none, map}
 use Prim.Native.Nat.{ℕ}
 use Rattle.notation.specs.Pieces.{contains}
 use Rattle.notation.specs.Options.{or_else}
@@ -16,18 +16,18 @@ use Rattle.ipv6_text.proofs.ColonLaws.{dotted_no_colon, eight_colon}
 use Rattle.text.specs.Strict.{strict_of}
 
 module _ (t : List ℕ) (a : Address) where
-  pub no_colon_4 : strict_of 4 t ≡ some a → contains 58 t ≡ false
+  pub no_colon_4 : strict_of 4 t ≡ Some a → contains 58 t ≡ false
   unfolding strict_of
   no_colon_4 e = go (dotted_of t) refl e
     where
-      go : (o : Option ℕ) → dotted_of t ≡ o → or_else (map V4 o) none ≡ some a → contains 58 t ≡ false
-      go none q k = impossible k
-      go (some v) q k = dotted_no_colon t v q
+      go : (o : Option ℕ) → dotted_of t ≡ o → or_else (option_map V4 o) None ≡ Some a → contains 58 t ≡ false
+      go None q k = impossible k
+      go (Some v) q k = dotted_no_colon t v q
 
-  pub colon_6 : strict_of 6 t ≡ some a → contains 58 t ≡ true
+  pub colon_6 : strict_of 6 t ≡ Some a → contains 58 t ≡ true
   unfolding strict_of
   colon_6 e = go (eight_of t) refl e
     where
-      go : (o : Option (List ℕ)) → eight_of t ≡ o → map groups_address o ≡ some a → contains 58 t ≡ true
-      go none q k = impossible k
-      go (some gs) q k = eight_colon t gs q
+      go : (o : Option (List ℕ)) → eight_of t ≡ o → option_map groups_address o ≡ Some a → contains 58 t ≡ true
+      go None q k = impossible k
+      go (Some gs) q k = eight_colon t gs q

@@ -1,8 +1,8 @@
 -- What reading strict text answers, told by tests. Assumes nothing.
+use Rattle.std.specs.Prelude.{Option, Some, None, option_map, ok_or}
 use mathlib.Core.Path.{◌≡◌, refl, sym, ap, ◌∙◌}
 use mathlib.Core.Bool.{true, false, not}
 use mathlib.Core.List.{List, [], ◌∷◌}
-use mathlib.Core.Option.{Option, some, none, map}
 use Prim.Native.Nat.{ℕ, ◌≤◌, ◌<◌}
 use native.Mathlib.Decide.{dec_le}
 use native.Mathlib.Omega.{arith}
@@ -12,35 +12,23 @@ use Rattle.notation.proofs.OptionLaws.{or_none}
 use Rattle.notation.specs.Options.{or_else}
 use Rattle.address.specs.declared.Address.{Address}
 use Rattle.address.specs.declared.Address.TheVariants.{V4}
-use Rattle.address.specs.declared.Reading.TheVariants.{Read, Refused}
-use Rattle.address.specs.declared.Refusal.{Refusal}
-use Rattle.address.specs.declared.Refusal.TheVariants.{TextTooLong, WrongFamily}
+use Rattle.address.specs.declared.Refusal.TheVariants.{TextTooLong, WrongFamily, Malformed}
 use Rattle.address.specs.Answers.{precedence, gives, refuses, no_address, reading_answer, read_answer}
 use Rattle.address_groups.specs.Groups.{groups_address}
 use Rattle.ipv4_text.specs.Dotted.{dotted_of}
 use Rattle.ipv6_text.specs.EightGroups.{eight_of}
-use Rattle.text.specs.Inner.{as_reading}
 use Rattle.text.specs.Strict.{strict_of, known_family, strict_answer}
 
--- what an answer says of the definition
-pub read_says : (o : Option Address) (a : Address) → Read a ≡ as_reading o → o ≡ some a
-read_says none a e = let z : ◌≡◌ {A = ℕ} 0 1 = cc in absurd (omega arith)
-read_says (some b) a e = cc
-
-pub refused_says : (o : Option Address) (r : Refusal) → Refused r ≡ as_reading o → o ≡ none
-refused_says none r e = refl
-refused_says (some b) r e = let z : ◌≡◌ {A = ℕ} 0 1 = cc in absurd (omega arith)
-
 module _ (f : ℕ) (t : List ℕ) where
-  pub strict_4 : f ≡ 4 → map V4 (dotted_of t) ≡ strict_of f t
+  pub strict_4 : f ≡ 4 → option_map V4 (dotted_of t) ≡ strict_of f t
   unfolding strict_of
-  strict_4 e = rw e (sym (or_none (map V4 (dotted_of t))))
+  strict_4 e = rw e (sym (or_none (option_map V4 (dotted_of t))))
 
-  pub strict_6 : f ≡ 6 → map groups_address (eight_of t) ≡ strict_of f t
+  pub strict_6 : f ≡ 6 → option_map groups_address (eight_of t) ≡ strict_of f t
   unfolding strict_of
   strict_6 e = rw e
 
-  pub strict_0 : (f ≡ 4 → ⊥) → (f ≡ 6 → ⊥) → or_else (map V4 (dotted_of t)) (map groups_address (eight_of t)) ≡ strict_of f t
+  pub strict_0 : (f ≡ 4 → ⊥) → (f ≡ 6 → ⊥) → or_else (option_map V4 (dotted_of t)) (option_map groups_address (eight_of t)) ≡ strict_of f t
   unfolding strict_of
   strict_0 n m = rw (ne_eqb f 4 n, ne_eqb f 6 m)
 
@@ -53,25 +41,25 @@ module _ (f : ℕ) (t : List ℕ) where
     unfolding strict_answer read_answer
     strict_long l = rw (k, lt-ltb 64 (length t) l)
 
-    pub strict_read : length t ≤ 64 → reading_answer (as_reading (strict_of f t)) ≡ strict_answer f t
+    pub strict_read : length t ≤ 64 → reading_answer (ok_or (strict_of f t) Malformed) ≡ strict_answer f t
     unfolding strict_answer read_answer
     strict_read l = rw (k, le-ltb 64 (length t) l) (go (strict_of f t))
       where
-        go : (o : Option Address) → reading_answer (as_reading o) ≡ read_answer precedence no_address ((9, not true) ∷ (1, false) ∷ []) o
-        go none = refl
-        go (some a) = refl
+        go : (o : Option Address) → reading_answer (ok_or o Malformed) ≡ read_answer precedence no_address ((9, not true) ∷ (1, false) ∷ []) o
+        go None = refl
+        go (Some a) = refl
 
     -- what is read has a meaning, and is no longer than a text may be
-    pub strict_gives : (a : Address) → strict_answer f t ≡ gives a → (length t ≤ 64) × (strict_of f t ≡ some a)
+    pub strict_gives : (a : Address) → strict_answer f t ≡ gives a → (length t ≤ 64) × (strict_of f t ≡ Some a)
     strict_gives a e = elim (dec_le (length t) 64) [
       | yes h ↦ (h, go (strict_of f t) (strict_read h ∙ e))
       | no n ↦ let z : ◌≡◌ {A = ℕ} 1 0 = ap (λ r. r.number) (strict_long (omega arith) ∙ e) in absurd (omega arith)
     ]
       where
-        go : (o : Option Address) → reading_answer (as_reading o) ≡ gives a → o ≡ some a
-        go none q = let z : ◌≡◌ {A = ℕ} 2 0 = ap (λ r. r.number) q in absurd (omega arith)
-        go (some b) q = ap some (ap (λ r. r.fields) q)
+        go : (o : Option Address) → reading_answer (ok_or o Malformed) ≡ gives a → o ≡ Some a
+        go None q = let z : ◌≡◌ {A = ℕ} 2 0 = ap (λ r. r.number) q in absurd (omega arith)
+        go (Some b) q = ap Some (ap (λ r. r.fields) q)
 
     -- and what has a meaning, and is no longer, is read
-    pub gives_strict : (a : Address) → length t ≤ 64 → strict_of f t ≡ some a → strict_answer f t ≡ gives a
-    gives_strict a l e = sym (strict_read l) ∙ ap (λ o. reading_answer (as_reading o)) e
+    pub gives_strict : (a : Address) → length t ≤ 64 → strict_of f t ≡ Some a → strict_answer f t ≡ gives a
+    gives_strict a l e = sym (strict_read l) ∙ ap (λ o. reading_answer (ok_or o Malformed)) e

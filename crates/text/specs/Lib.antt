@@ -1,3 +1,2 @@
--- Strict: strict text of both families, and what reading it answers. Inner: what the contracts of private functions cite.
+-- Strict: strict text of both families, and what reading it answers.
 pub mod Strict
-pub mod Inner

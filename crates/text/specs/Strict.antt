@@ -1,6 +1,5 @@
 -- Strict text (01, "Strict text"; RFC 3986 section 3.2.2 and RFC 4291 section 2.2). A text is the list of its bytes. Assumes nothing.
-use Rattle.std.specs.Prelude.{Bool, cond, ◌||◌, not, List, [], ◌∷◌, ℕ, ltb, eqb, length}
-use Rattle.std.proofs.Math.Option.{Option, none, map}
+use Rattle.std.specs.Prelude.{Bool, cond, ◌||◌, not, List, [], ◌∷◌, ℕ, ltb, eqb, length, Option, None, option_map}
 use Rattle.notation.specs.Options.{or_else}
 use Rattle.address.specs.declared.Address.{Address}
 use Rattle.address.specs.declared.Address.TheVariants.{V4}
@@ -13,7 +12,7 @@ use Rattle.ipv6_text.specs.EightGroups.{eight_of}
 unfoldable pub strict_of : ℕ → List ℕ → Option Address
 unfolding dotted_of eight_of
 strict_of family t =
-    or_else (cond (eqb family 6) none (map V4 (dotted_of t))) (cond (eqb family 4) none (map groups_address (eight_of t)))
+    or_else (cond (eqb family 6) None (option_map V4 (dotted_of t))) (cond (eqb family 4) None (option_map groups_address (eight_of t)))
 
 -- 4 and 6, and "Family 0 means either"
 abbrev pub known_family : ℕ → Bool

@@ -1,6 +1,6 @@
 -- Numbers of two digits in a base b: the halves of a wide number, with b = 2 ^ 64. Assumes nothing.
 -- The base is a variable, since `omega` takes no numeral of 128 bits.
-use Rattle.std.proofs.Common.{◌≡◌, ℕ, ◌+◌, ◌-◌, ◌*◌, ◌%◌, ◌^◌, ◌<◌, ◌≤◌, min, false, eqb, ltb, sym, ap, ◌∙◌, mul-le-mul_right, add-mul, one-mul, arith, shl_exact, le-ltb, lt-ltb, eq-eqb, ne_eqb}
+use Rattle.std.proofs.Common.{◌≡◌, ℕ, ◌+◌, ◌-◌, ◌*◌, ◌%◌, ◌^◌, ◌<◌, ◌≤◌, min, false, eqb, sym, ap, ◌∙◌, mul-le-mul_right, add-mul, one-mul, arith, shl_exact, eq-eqb, ne_eqb}
 use native.Mathlib.Decide.{dec_lt, ℕ_discrete}
 use lib.Arith.{digits_lt}
 use Rattle.wide.specs.declared.Wide.{Wide}
@@ -11,14 +11,7 @@ module _ (b ah al bh bl : ℕ) where
   pub high_less : ah < bh → al < b → ah * b + al < bh * b + bl
   high_less h l = let d : ah * b + al < bh * b = digits_lt h l in omega arith
 
-  -- of two with the same upper digit, the lower decides
-  pub low_less : ah ≡ bh → ltb al bl ≡ ltb (ah * b + al) (bh * b + bl)
-  low_less e = elim (dec_lt al bl) [
-    | yes h ↦ lt-ltb al bl h ∙ sym (lt-ltb (ah * b + al) (bh * b + bl) (omega (arith, ap (λ (x : ℕ). x * b) e)))
-    | no n ↦ le-ltb al bl (omega arith) ∙ sym (le-ltb (ah * b + al) (bh * b + bl) (omega (arith, ap (λ (x : ℕ). x * b) e)))
-  ]
-
-  -- and they are the same where the lower ones are
+  -- two with the same upper digit are the same where the lower ones are
   pub low_same : ah ≡ bh → eqb al bl ≡ eqb (ah * b + al) (bh * b + bl)
   low_same e =
       let p = ap (λ (x : ℕ). x * b) e in

@@ -1,47 +1,35 @@
 // Numbers of 128 bits as two halves of 64, by value. An IPv4 address is one whose upper half is 0.
 // No operation wraps: a sum stops at the largest number and a difference at 0.
+// The derived `==` and `<` are those of the values, as `equal_means` and `less_means` of proofs/Claims.antt say.
 #![tactic(auto)]
 
-ghost use Rattle.std.specs.Prelude.{◌≡◌, ◌+◌, ◌-◌, ◌*◌, ◌%◌, ◌^◌, min, ◌==◌, nat_lt};
+ghost use Rattle.std.specs.Prelude.{◌≡◌, ◌+◌, ◌-◌, ◌*◌, ◌%◌, ◌^◌, min, ◌==◌};
 ghost use Rattle.std.specs.Int.Count.{count_trailing_zeros};
 ghost use Rattle.wide.specs.Value.{value};
 
 // The largest half.
 const MOST: u64 = 0xffff_ffff_ffff_ffff;
 
-#[derive(Clone, Copy)]
+#[derive(Clone, Copy, Debug, PartialEq, Eq, PartialOrd, Ord)]
 pub struct Wide {
     pub hi: u64,
     pub lo: u64,
 }
 
+impl From<u64> for Wide {
+    ghost from_gives = { λ n w. value w ≡ n };
+
+    fn from(n: u64) -> Wide {
+        Wide { hi: 0, lo: n }
+    }
+}
+
 impl Wide {
+    // A constructor: two numbers in a pair, as `From` would take, do not say which is the upper half.
     pub fn from_halves(hi: u64, lo: u64) -> Wide
         ensures { value result ≡ hi * 2 ^ 64 + lo }
     {
         Wide { hi, lo }
-    }
-
-    pub fn less(self, other: Wide) -> bool
-        ensures { result ≡ nat_lt (value self) (value other) }
-    {
-        if self.hi < other.hi {
-            return true;
-        }
-        if other.hi < self.hi {
-            return false;
-        }
-        self.lo < other.lo
-    }
-
-    pub fn same(self, other: Wide) -> bool
-        ensures { result ≡ (value self == value other) }
-    {
-        if self.hi == other.hi {
-            self.lo == other.lo
-        } else {
-            false
-        }
     }
 
     // The sum, or the largest number of 128 bits where the sum has more.

@@ -1,10 +1,9 @@
 -- What writing words answers, for a number of the table and for any other; whose words are whose. Assumes nothing.
+use Rattle.std.specs.Prelude.{Option, Some, None, unwrap_or}
 use mathlib.Core.Path.{◌≡◌, refl, sym}
 use mathlib.Core.Logic.{◌↔◌}
 use mathlib.Core.Bool.{Bool, true, false, cond, ◌&&◌, and-eq-true_iff, false≢true}
 use mathlib.Core.List.{List, [], ◌∷◌}
-use mathlib.Core.Option
-use mathlib.Core.Option.{some, none}
 use Prim.Native.Nat.{ℕ, ◌+◌, ◌≤◌, ◌<◌}
 use native.Mathlib.Decide.{ℕ_discrete}
 use native.Mathlib.Omega.{arith}
@@ -84,24 +83,23 @@ Writes n old r new = (r ≡ write_answer (words_refusal n) (words_text n) old) �
 
 module _ (n : ℕ) (old : List ℕ) where
   -- a number of the table has its words stored
-  pub words_stored : (k : ℕ) (t : List ℕ) → n ≡ k → refusal_words k ≡ some t → {r : Answer ℕ} {new : List ℕ}
+  pub words_stored : (k : ℕ) (t : List ℕ) → n ≡ k → refusal_words k ≡ Some t → {r : Answer ℕ} {new : List ℕ}
       → (r ≡ write_answer 0 t old) × (new ≡ write_leaves 0 t old) → Writes n old r new
   unfolding words_refusal write_answer write_leaves
   words_stored k t e w p = rw (e, w) p
 
   -- any other is refused
-  pub words_refused : refusal_words n ≡ none → Writes n old (refuses 0 Malformed) old
+  pub words_refused : refusal_words n ≡ None → Writes n old (refuses 0 Malformed) old
   unfolding words_refusal write_answer write_leaves
   words_refused w = rw w (refl, refl)
 
--- a number that is none of 1 to 10, as a match tells it, is not of the table
-abbrev Not : ℕ → ℕ → Type 0
-Not n k = n ≡ k → ⊥
-
-pub no_words : (n : ℕ) → (((((((((Unit {0} × Not n 1) × Not n 2) × Not n 3) × Not n 4) × Not n 5) × Not n 6) × Not n 7) × Not n 8) × Not n 9) × Not n 10 → refusal_words n ≡ none
-unfolding refusal_words
-no_words n h =
-    rw (ne_eqb n 1 h.0.0.0.0.0.0.0.0.0.1, ne_eqb n 2 h.0.0.0.0.0.0.0.0.1, ne_eqb n 3 h.0.0.0.0.0.0.0.1, ne_eqb n 4 h.0.0.0.0.0.0.1, ne_eqb n 5 h.0.0.0.0.0.1, ne_eqb n 6 h.0.0.0.0.1, ne_eqb n 7 h.0.0.0.1, ne_eqb n 8 h.0.0.1, ne_eqb n 9 h.0.1, ne_eqb n 10 h.1)
+-- a number that is none of 1 to 10 is not of the table
+pub no_words : (n : ℕ) → ¬ ((1 ≤ n) × (n ≤ 10)) → refusal_words n ≡ None
+no_words n h = go (refusal_words n) (λ e. h ((words_1_to_10 n).0 e))
+  where
+    go : (o : Option (List ℕ)) → ¬ (missing o ≡ false) → o ≡ None
+    go None k = refl
+    go (Some t) k = absurd (k refl)
 
 -- ---- the reason against a number
 
@@ -150,13 +148,13 @@ all : List (ℕ × List ℕ) → Bool
 all [] = true
 all (w ∷ ws) = good w.1 && all ws
 
-row_good : (n : ℕ) (ws : List (ℕ × List ℕ)) → all ws ≡ true → good (Option.get_or (words_in n ws) []) ≡ true
+row_good : (n : ℕ) (ws : List (ℕ × List ℕ)) → all ws ≡ true → good (unwrap_or (words_in n ws) []) ≡ true
 unfolding words_in printable all
 row_good n [] h = refl
 row_good n (w ∷ ws) h = pick (eqb n w.0) (good w.1) refl (all ws) refl (row_good n ws) h
   where
-    pick : (t a : Bool) → good w.1 ≡ a → (b : Bool) → all ws ≡ b → (all ws ≡ true → good (Option.get_or (words_in n ws) []) ≡ true)
-        → (a && b) ≡ true → good (Option.get_or (cond t (some w.1) (words_in n ws)) []) ≡ true
+    pick : (t a : Bool) → good w.1 ≡ a → (b : Bool) → all ws ≡ b → (all ws ≡ true → good (unwrap_or (words_in n ws) []) ≡ true)
+        → (a && b) ≡ true → good (unwrap_or (cond t (Some w.1) (words_in n ws)) []) ≡ true
     pick true true e b f ih k = e
     pick false true e true f ih k = ih f
     pick t false e b f ih k = absurd (false≢true k)

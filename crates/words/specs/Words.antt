@@ -1,6 +1,5 @@
 -- The refusals in words (01, "Why a call says no"). Assumes nothing.
-use Rattle.std.specs.Prelude.{cond, Bool, true, ◌&&◌, List, [], ◌∷◌, ℕ, eqb}
-use Rattle.std.proofs.Math.Option.{Option, some, none, get_or}
+use Rattle.std.specs.Prelude.{cond, Bool, true, ◌&&◌, List, [], ◌∷◌, ℕ, eqb, Option, Some, None, unwrap_or}
 use Rattle.notation.specs.Ascii.{ascii, within}
 use Rattle.address.specs.Answers.{missing, precedence, refusal}
 
@@ -21,8 +20,8 @@ table =
 
 -- the words beside a number
 unfoldable pub words_in : ℕ → List (ℕ × List ℕ) → Option (List ℕ)
-words_in n [] = none
-words_in n (w ∷ ws) = cond (eqb n w.0) (some w.1) (words_in n ws)
+words_in n [] = None
+words_in n (w ∷ ws) = cond (eqb n w.0) (Some w.1) (words_in n ws)
 
 unfoldable pub refusal_words : ℕ → Option (List ℕ)
 unfolding words_in ascii
@@ -30,7 +29,7 @@ refusal_words n = words_in n table
 
 -- what is written for a number, and the number that refuses one that is not of the table: it is "not of the form asked for"
 abbrev pub words_text : ℕ → List ℕ
-words_text n = get_or (refusal_words n) []
+words_text n = unwrap_or (refusal_words n) []
 
 unfoldable pub words_refusal : ℕ → ℕ
 unfolding refusal

@@ -2,6 +2,7 @@
 use mathlib.Core.Path.{◌≡◌, sym, ap, ◌∙◌}
 use native.Mathlib.Omega.{arith}
 use lib.ListN.{length, take}
+use Rattle.notation.proofs.OptionLaws.{passed_on}
 use Rattle.address.specs.Answers.{check_number}
 use Rattle.address.specs.Blocks.{block_refusal}
 use Rattle.address.proofs.AnswerLaws.{write_none, write_other}
@@ -20,10 +21,11 @@ whole c = puts_whole c.put_block-n.ensures (omega (arith, text_most c.args.block
 pub slice_bounds-store-end : goal.slice_bounds-store-end
 slice_bounds-store-end c = let w = whole (goal.at.slice_bounds-store-end c).After-put_block-n in w.0 ∙ ap length (sym w.1)
 
-pub returns-in-Refused : goal.returns-in-Refused
-returns-in-Refused c =
-    write_other (block_refusal c.args.block) _ _ c.in-Refused.e (ap check_number (sym c.in-Refused.is) ∙ c.check.ensures)
+pub returns-in_err-check : goal.returns-in_err-check
+returns-in_err-check c =
+    rw (passed_on c.from_residual.ensures.1)
+    (write_other (block_refusal c.args.block) _ _ c.in_err-check.field-0.0 (sym (ap check_number c.in_err-check.was) ∙ c.check.ensures))
 
-pub returns-in-Valid : goal.returns-in-Valid
-returns-in-Valid c =
-    rw (← (whole (goal.at.returns-in-Valid c).After-put_block-n).1) (write_none (block_refusal c.args.block) _ _ (sym c.check.ensures ∙ ap check_number c.in-Valid.is) c.store.ensures)
+pub returns : goal.returns
+returns c =
+    rw (← (whole (goal.at.returns c).After-put_block-n).1) (write_none (block_refusal c.args.block) _ _ (sym c.check.ensures ∙ ap check_number c.in_ok-check.was) c.store.ensures)

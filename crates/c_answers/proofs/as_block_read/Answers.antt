@@ -5,8 +5,8 @@ use Rattle.address.proofs.AnswerLaws.{nonzero}
 use Rattle.c_answers.specs.CAnswers.{besides}
 use Rattle.c_answers.proofs.as_block_read.Goals as goal
 
-pub returns-in-Wrote : goal.returns-in-Wrote
-returns-in-Wrote c = ap (λ w. besides c.args.length (writing_answer w)) (sym c.in-Wrote.is)
+pub returns-in-Ok : goal.returns-in-Ok
+returns-in-Ok c = ap (λ w. besides c.args.length (writing_answer w)) (sym c.in-Ok.is)
 
-pub returns-in-Refused : goal.returns-in-Refused
-returns-in-Refused c = (λ i. record { number = c.number.ensures i; fields = (0, 0) }) ∙ rw (c.in-Refused.is, nonzero c.in-Refused.e)
+pub returns-in-Err : goal.returns-in-Err
+returns-in-Err c = (λ i. record { number = c.from.ensures i; fields = (0, 0) }) ∙ rw (c.in-Err.is, nonzero c.in-Err.e)

@@ -1,22 +1,17 @@
 -- `ipv6_text::read_eight` meets its contract. Assumes nothing.
 use mathlib.Core.Path.{sym, ap, ◌∙◌}
-use mathlib.Core.Bool.{true}
-use mathlib.Core.List.{List}
-use Prim.Native.Nat.{ℕ}
-use native.Mathlib.Omega.{arith}
-use Rattle.ipv6_text.specs.declared.Eight.{Eight}
-use Rattle.ipv6_text.specs.EightGroups.{as_eight}
-use Rattle.ipv6_text.proofs.PlaceLaws.{layout_none, layout_some, layout_full}
+use Rattle.std.specs.Prelude.{Some}
+use Rattle.ipv6_text.proofs.PlaceLaws.{layout_full}
 use Rattle.ipv6_text.proofs.read_eight.Goals as goal
 
-pub returns-then-count-gt8 : goal.returns-then-count-gt8
-returns-then-count-gt8 c = let r = c.read_groups-layout in sym (ap as_eight (layout_none r.new.groups r.result _ r.ensures c.if-count-gt8.true))
+pub returns-in_err-layout : goal.returns-in_err-layout
+returns-in_err-layout c = rw c.from_residual.ensures c.in_err-layout.ensures.groups
 
-pub returns-then-count-ge8 : goal.returns-then-count-ge8
-returns-then-count-ge8 c = let r = c.read_groups-layout in sym (ap as_eight (layout_full r.new.groups r.result _ r.ensures (omega arith)))
+pub returns-then-count-eq8 : goal.returns-then-count-eq8
+returns-then-count-eq8 c = sym (layout_full _ _ _ c.in_ok-layout.ensures c.if-count-eq8.true)
+
+pub expand-requires : goal.expand-requires
+expand-requires c = let l = c.in_ok-layout.ensures in (l.places, l.order.0, l.order.1)
 
 pub returns : goal.returns
-returns c =
-    let r = c.read_groups-layout in
-    let full : List ℕ → Eight = λ g. record { ok = true; groups = g } in
-    ap full c.expand-all.ensures ∙ sym (ap as_eight (layout_some r.new.groups r.result _ r.ensures (omega arith)))
+returns c = ap Some c.expand.ensures ∙ c.in_ok-layout.ensures.groups

@@ -13,13 +13,11 @@ returns-then-hex_marked c = sym (base_hex c.args.text.now (sym c.hex_marked.ensu
 unmarked : (c : Else-hex_marked) → hex_marked c.args.text.now ≡ false
 unmarked c = sym c.hex_marked.ensures ∙ c.if-hex_marked.false
 
-pub returns-then-text-eq0 : goal.returns-then-text-eq0
-returns-then-text-eq0 c = sym (base_empty c.args.text.now c.if-text-eq0.true)
+pub returns-in-48 : goal.returns-in-48
+returns-in-48 c = sym (base_zero c.args.text.now (unmarked (goal.at.returns-in-48 c).Else-hex_marked) (omega arith) (omega arith))
 
-pub returns-then-text-eq48 : goal.returns-then-text-eq48
-returns-then-text-eq48 c =
-    sym (base_zero c.args.text.now (unmarked (goal.at.returns-then-text-eq48 c).Else-hex_marked) (omega arith) c.if-text-eq48.true)
+pub returns-in_default : goal.returns-in_default
+returns-in_default c = sym (base_empty c.args.text.now (omega arith))
 
-pub returns-else-text-eq48 : goal.returns-else-text-eq48
-returns-else-text-eq48 c =
-    sym (base_other c.args.text.now (unmarked (goal.at.returns-else-text-eq48 c).Else-hex_marked) (omega arith) c.if-text-eq48.false)
+pub returns-in_default-2 : goal.returns-in_default-2
+returns-in_default-2 c = sym (base_other c.args.text.now (unmarked (goal.at.returns-in_default-2 c).Else-hex_marked) (omega arith) (omega arith))

@@ -1,9 +1,8 @@
 -- `loose::leading_loose` meets its contract. Assumes nothing.
-use mathlib.Core.Path.{sym, ◌∙◌}
+use Rattle.std.specs.Prelude.{Some, None}
 use Prim.Native.Nat.{◌≤◌}
 use native.Mathlib.Omega.{arith}
 use lib.ListN.{length}
-use Rattle.digits.specs.declared.read.Leading.TheVariants.{Number, Nothing}
 use Rattle.loose.proofs.PartLaws.{mark_le, found_is, found_short}
 use Rattle.loose.proofs.leading_loose.Goals.{After-mark-skip}
 use Rattle.loose.proofs.leading_loose.Goals as goal
@@ -18,19 +17,19 @@ slice_bounds-leading_number-count c = inside (goal.at.slice_bounds-leading_numbe
 pub slice_bounds-leading_number-start : goal.slice_bounds-leading_number-start
 slice_bounds-leading_number-start c = inside (goal.at.slice_bounds-leading_number-start c).After-mark-skip
 
-pub returns-in_default : goal.returns-in_default
-returns-in_default c =
-    found_is c.args.text.now c.mark-skip.result c.base.result Nothing c.mark-skip.ensures c.base.ensures (sym c.in_default.is ∙ c.leading_number.ensures)
+pub returns-in_err-value : goal.returns-in_err-value
+returns-in_err-value c =
+    rw c.from_residual.ensures ((found_is c.args.text.now c.mark-skip.result c.base.result None c.mark-skip.ensures c.base.ensures c.in_err-value.ensures))
 
 pub overflow_add-result : goal.overflow_add-result
 overflow_add-result c =
     let t = c.args.text.now in
     let k = inside (goal.at.overflow_add-result c).After-mark-skip in
-    omega (arith, found_short t c.mark-skip.result c.base.result 4294967295 c.in-Number.value c.in-Number.count (sym c.in-Number.is ∙ c.leading_number.ensures))
+    omega (arith, found_short t c.mark-skip.result c.base.result 4294967295 c.in_ok-value.value c.in_ok-value.count c.in_ok-value.ensures)
 
 pub returns : goal.returns
 returns c =
-    found_is c.args.text.now c.mark-skip.result c.base.result (Number c.in-Number.value c.in-Number.count)
+    found_is c.args.text.now c.mark-skip.result c.base.result (Some (c.in_ok-value.value, c.in_ok-value.count))
     c.mark-skip.ensures
     c.base.ensures
-    (sym c.in-Number.is ∙ c.leading_number.ensures)
+    c.in_ok-value.ensures

@@ -8,5 +8,5 @@ use Rattle.nibharrow.proofs.nibharrow_gather.Goals as goal
 pub returns : goal.returns
 unfolding gather_into
 returns c =
-    both (c.as_blocks_written.ensures ∙ c.gather.ensures.0) c.gather.ensures.1
+    both (c.from.ensures ∙ c.gather.ensures.0) c.gather.ensures.1
     ∙ records_cut gathered_list _ _ _ _ c.as_byte.ensures

@@ -6,14 +6,14 @@ use Rattle.nibharrow.specs.Interface.{block_into}
 use Rattle.nibharrow.proofs.InterfaceLaws.{both, when_given_lem, when_refused, refused_besides}
 use Rattle.nibharrow.proofs.nibharrow_read_block.Goals as goal
 
-pub returns-in-Read : goal.returns-in-Read
+pub returns-in-Ok : goal.returns-in-Ok
 unfolding block_into
-returns-in-Read c =
+returns-in-Ok c =
     both (c.as_block_read.ensures ∙ ap (besides _) c.write_octets.ensures.0) c.write_octets.ensures.1
-    ∙ when_given_lem _ _ _ c.in-Read.block (ap block_answer (sym c.in-Read.is) ∙ c.read_block.ensures)
+    ∙ when_given_lem _ _ _ c.in-Ok.block (ap block_answer (sym c.in-Ok.is) ∙ c.read_block.ensures)
 
-pub returns-in-Refused : goal.returns-in-Refused
+pub returns-in-Err : goal.returns-in-Err
 unfolding block_into
-returns-in-Refused c =
-    both (c.as_block_read-in-Refused.ensures ∙ refused_besides 0 c.in-Refused.e) refl
-    ∙ when_refused _ _ _ no_block c.in-Refused.e (ap block_answer (sym c.in-Refused.is) ∙ c.read_block.ensures)
+returns-in-Err c =
+    both (c.as_block_read-in-Err.ensures ∙ refused_besides 0 c.in-Err.e) refl
+    ∙ when_refused _ _ _ no_block c.in-Err.e (ap block_answer (sym c.in-Err.is) ∙ c.read_block.ensures)

@@ -7,4 +7,4 @@ use Rattle.nibharrow.proofs.nibharrow_read_network.Goals as goal
 pub returns : goal.returns
 unfolding network_into
 returns c =
-    both (c.as_network_read.ensures ∙ c.read_network.ensures.0) c.read_network.ensures.1
+    both (c.from.ensures ∙ c.read_network.ensures.0) c.read_network.ensures.1

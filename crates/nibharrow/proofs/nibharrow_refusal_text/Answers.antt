@@ -6,4 +6,4 @@ use Rattle.nibharrow.proofs.nibharrow_refusal_text.Goals as goal
 pub returns : goal.returns
 unfolding words_into
 returns c =
-    wrote _ _ _ c.as_written.ensures c.write_words.ensures
+    wrote _ _ _ c.from.ensures c.write_words.ensures

@@ -6,4 +6,4 @@ use Rattle.nibharrow.proofs.nibharrow_respell.Goals as goal
 
 pub returns : goal.returns
 unfolding respell_into
-returns c = both (c.as_written.ensures ∙ c.respell.ensures.0) c.respell.ensures.1
+returns c = both (c.from.ensures ∙ c.respell.ensures.0) c.respell.ensures.1

@@ -4,15 +4,15 @@ use Rattle.nibharrow.specs.Interface.{octets_split}
 use Rattle.nibharrow.proofs.InterfaceLaws.{reading_given, reading_refused}
 use Rattle.nibharrow.proofs.nibharrow_split.Goals as goal
 
-pub returns-in-Read : goal.returns-in-Read
+pub returns-in-Ok : goal.returns-in-Ok
 unfolding octets_split
-returns-in-Read c =
-    c.as_network_host.ensures
+returns-in-Ok c =
+    c.from.ensures
     ∙ c.split.ensures
-    ∙ reading_given _ _ _ _ c.read_octets.ensures c.in-Read.a c.in-Read.is
+    ∙ reading_given _ _ _ _ c.read_octets.ensures c.in-Ok.a c.in-Ok.is
 
-pub returns-in-Refused : goal.returns-in-Refused
+pub returns-in-Err : goal.returns-in-Err
 unfolding octets_split
-returns-in-Refused c =
-    c.as_network_host-in-Refused.ensures
-    ∙ reading_refused _ _ _ _ c.read_octets.ensures c.in-Refused.e c.in-Refused.is
+returns-in-Err c =
+    c.from-in-Err.ensures
+    ∙ reading_refused _ _ _ _ c.read_octets.ensures c.in-Err.e c.in-Err.is

@@ -8,5 +8,5 @@ use Rattle.nibharrow.proofs.nibharrow_uncovered.Goals as goal
 pub returns : goal.returns
 unfolding uncovered_into
 returns c =
-    both (c.as_blocks_written.ensures ∙ c.uncovered.ensures.0) c.uncovered.ensures.1
+    both (c.from.ensures ∙ c.uncovered.ensures.0) c.uncovered.ensures.1
     ∙ records_cut uncovered_list _ _ _ _ c.as_byte.ensures

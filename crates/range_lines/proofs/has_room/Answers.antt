@@ -1,21 +1,19 @@
 -- `range_lines::has_room` meets its contract. Assumes nothing.
-use Rattle.range_lines.proofs.RoomLaws.{no_free, unwanted_room, no_spare, wanted_room}
+use native.Mathlib.Omega.{arith}
+use borrow.Author.Tests.{le-leb, lt-leb}
+use Rattle.range_lines.specs.Feeding.{has_room}
 use Rattle.range_lines.proofs.has_room.Goals as goal
 
-pub returns-then-free-lt11176 : goal.returns-then-free-lt11176
-returns-then-free-lt11176 c = let a = c.args in no_free a.name.now a.free a.spare a.explain c.if-free-lt11176.true
-
 pub returns-then-not-explain : goal.returns-then-not-explain
+unfolding has_room
 returns-then-not-explain c =
     let a = c.args in
-    unwanted_room a.name.now a.free a.spare c.if-free-lt11176.false c.if-not-explain.true
+    rw (le-leb 11176 a.free c.if-free-ge11176.true, c.if-not-explain.true, le-leb 0 a.spare (omega arith))
 
-pub returns-then-spare-lt91 : goal.returns-then-spare-lt91
-returns-then-spare-lt91 c =
-    let a = c.args in
-    no_spare a.name.now a.free a.spare c.if-free-lt11176.false c.if-not-explain.false c.if-spare-lt91.true
+pub returns-else-not-explain : goal.returns-else-not-explain
+unfolding has_room
+returns-else-not-explain c = rw (le-leb 11176 c.args.free c.if-free-ge11176.true, c.if-not-explain.false)
 
-pub returns : goal.returns
-returns c =
-    let a = c.args in
-    wanted_room a.name.now a.free a.spare c.if-free-lt11176.false c.if-not-explain.false c.if-spare-lt91.false
+pub returns-else-free-ge11176 : goal.returns-else-free-ge11176
+unfolding has_room
+returns-else-free-ge11176 c = rw (lt-leb 11176 c.args.free c.if-free-ge11176.false)

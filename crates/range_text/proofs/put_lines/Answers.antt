@@ -26,7 +26,7 @@ loop-rest-smaller c =
 
 pub loop-rest-preserved : goal.loop-rest-preserved
 loop-rest-preserved c =
-    walk_on c.loop-rest.invariant (search rules) (ap block_answer (sym c.in-Read.is) ∙ c.read_record.ensures) c.put_block-behind.ensures c.put-next.ensures
+    walk_on c.loop-rest.invariant (search rules) (ap block_answer (sym c.in-Ok.is) ∙ c.read_record.ensures) c.put_block-behind.ensures c.put-next.ensures
 
 pub returns : goal.returns
 returns c =

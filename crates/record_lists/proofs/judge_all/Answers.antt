@@ -1,13 +1,14 @@
 -- `record_lists::judge_all` meets its contract. Assumes nothing.
 use Prim.Native.Nat.{◌+◌, ◌*◌, ◌≤◌, ◌<◌}
 use native.Mathlib.Omega.{arith}
+use Rattle.notation.proofs.OptionLaws.{passed_on}
 use Rattle.wide.specs.Value.{value}
 use Rattle.record_lists.proofs.ListLaws.{judging_start, judging_next, judging_bad, judging_end, next_room, one_size, list_small, part_front}
 use Rattle.record_lists.proofs.judge_all.Goals.{In-loop-i}
 use Rattle.record_lists.proofs.judge_all.Goals as goal
 
 pub loop-i-init : goal.loop-i-init
-loop-i-init c = let a = c.args in judging_start a.size a.n a.records.now (value c.from_halves-last.result) c.from_halves-last.ensures
+loop-i-init c = let a = c.args in judging_start a.size a.n a.records.now (value c.from-last.result) c.from-last.ensures
 
 -- the next record lies in the list
 inside : (c : In-loop-i) → c.loop-i.i < c.args.n
@@ -33,16 +34,17 @@ judge_one-requires c =
     let s = (goal.at.judge_one-requires c).In-loop-i in
     one_size s.requires.0 s.requires.1 c.loop-i.invariant (inside (goal.at.judge_one-requires c).In-loop-i) _ (part_front s.args.size (c.loop-i.i * s.args.size) s.args.records.now)
 
-pub returns-in-Bad : goal.returns-in-Bad
-returns-in-Bad c =
-    let s = (goal.at.returns-in-Bad c).In-loop-i in
-    judging_bad s.requires.0 s.requires.1 c.loop-i.invariant (inside (goal.at.returns-in-Bad c).In-loop-i) _ (part_front s.args.size (c.loop-i.i * s.args.size) s.args.records.now)
-    c.in-Bad.e c.in-Bad.ensures
+pub returns-in_err-next : goal.returns-in_err-next
+returns-in_err-next c =
+    let s = (goal.at.returns-in_err-next c).In-loop-i in
+    rw (passed_on c.from_residual.ensures.1)
+    (judging_bad s.requires.0 s.requires.1 c.loop-i.invariant (inside (goal.at.returns-in_err-next c).In-loop-i) _ (part_front s.args.size (c.loop-i.i * s.args.size) s.args.records.now)
+    c.in_err-next.field-0.0 c.in_err-next.ensures)
 
 pub loop-i-preserved : goal.loop-i-preserved
 loop-i-preserved c =
     let s = (goal.at.loop-i-preserved c).In-loop-i in
-    let good = c.in-Good.ensures in
+    let good = c.in_ok-next.ensures in
     judging_next s.requires.0 s.requires.1 c.loop-i.invariant (inside (goal.at.loop-i-preserved c).In-loop-i) _ (part_front s.args.size (c.loop-i.i * s.args.size) s.args.records.now)
     good.0 _ good.1 _ c.still_rises-rises.ensures
 

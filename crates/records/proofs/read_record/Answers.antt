@@ -23,4 +23,4 @@ pub returns : goal.returns
 returns c =
     let t = c.args.bytes.now in
     c.checked.ensures
-    ∙ sym (answer_block t _ (record_read t (omega arith) c.in-Read.address (ap reading_answer (sym c.in-Read.is) ∙ c.read_octets.ensures)))
+    ∙ sym (answer_block t _ (record_read t (omega arith) c.in-Ok.address (ap reading_answer (sym c.in-Ok.is) ∙ c.read_octets.ensures)))

@@ -1,15 +1,11 @@
 -- `sheet_lines::read_fields` meets its contract. Assumes nothing.
-use mathlib.Core.Path.{sym, ap, ◌∙◌}
-use Rattle.address.specs.Answers.{reading_answer}
-use Rattle.sheet_lines.proofs.FieldLaws.{address_read, address_refused}
+use mathlib.Core.Path.{sym, ◌∙◌}
+use Rattle.sheet_lines.proofs.FieldLaws.{address_found}
 use Rattle.sheet_lines.proofs.read_fields.Goals as goal
 
-pub returns-in_default : goal.returns-in_default
-returns-in_default c =
-    let a = c.args in
-    rw (address_refused a.address.now c.in_default.field-0 (ap reading_answer (sym c.in_default.is) ∙ c.read_address.ensures))
+pub returns-in_err-address : goal.returns-in_err-address
+returns-in_err-address c =
+    rw (c.from_residual.ensures, address_found c.args.address.now _ c.read_address.ensures ∙ sym c.ok.ensures.value ∙ c.in_err-address.was)
 
 pub returns : goal.returns
-returns c =
-    let a = c.args in
-    rw (address_read a.address.now c.in-Read.a (ap reading_answer (sym c.in-Read.is) ∙ c.read_address.ensures)) c.read_numbers.ensures
+returns c = rw (address_found c.args.address.now _ c.read_address.ensures ∙ sym c.ok.ensures.value ∙ c.in_ok-address.was) c.read_numbers.ensures

@@ -11,21 +11,21 @@ returns-then-leading_zero c =
     let a = c.args in
     rw (number_zero a.most a.text.now (sym c.leading_zero.ensures ∙ c.if-leading_zero.true))
 
-pub returns-in_default : goal.returns-in_default
-returns-in_default c =
+pub returns-in_err-value : goal.returns-in_err-value
+returns-in_err-value c =
     let a = c.args in
     let s = number_rest a.most a.text.now (sym c.leading_zero.ensures ∙ c.if-leading_zero.false) in
-    rw (s, whole_nothing 10 (bounded_number 10 a.most) (bounded_reads 10 a.most) a.text.now (sym c.in_default.is ∙ c.leading_number.ensures))
+    rw (c.from_residual.ensures, s, whole_nothing 10 (bounded_number 10 a.most) (bounded_reads 10 a.most) a.text.now c.in_err-value.ensures)
 
 pub returns-then-count-text : goal.returns-then-count-text
 returns-then-count-text c =
     let a = c.args in
     let s = number_rest a.most a.text.now (sym c.leading_zero.ensures ∙ c.if-leading_zero.false) in
-    rw (s, whole_short 10 (bounded_number 10 a.most) (bounded_reads 10 a.most) a.text.now _ _ (sym c.in-Number.is ∙ c.leading_number.ensures) (omega arith))
+    rw (s, whole_short 10 (bounded_number 10 a.most) (bounded_reads 10 a.most) a.text.now _ _ c.in_ok-value.ensures (omega arith))
 
 pub returns : goal.returns
 returns c =
     let a = c.args in
     let s = number_rest a.most a.text.now (sym c.leading_zero.ensures ∙ c.if-leading_zero.false) in
-    let w = whole_number 10 (bounded_number 10 a.most) (bounded_reads 10 a.most) a.text.now _ _ (sym c.in-Number.is ∙ c.leading_number.ensures) (omega arith) in
+    let w = whole_number 10 (bounded_number 10 a.most) (bounded_reads 10 a.most) a.text.now _ _ c.in_ok-value.ensures (omega arith) in
     rw (s, w.0, ← w.1)

@@ -1,4 +1,4 @@
--- `sheet_notes::excess_line` meets its contract. The measure: the bytes that are left. Assumes nothing.
+-- `sheet_notes::excess_line` meets its contract. Assumes nothing.
 use Rattle.sheet_notes.proofs.LineLaws.{count_start, count_on, count_full, count_end}
 use Rattle.sheet_notes.proofs.excess_line.Goals as goal
 

@@ -25,7 +25,7 @@ loop-rest-smaller c =
 
 pub loop-rest-preserved : goal.loop-rest-preserved
 loop-rest-preserved c =
-    pass_on c.loop-rest.invariant _ c.find-end.ensures c.if-rest-end.false c.read_line.ensures c.in-Line.field-0 c.in-Line.is
+    pass_on c.loop-rest.invariant _ c.find-end.ensures c.if-rest-end.false c.read_line.ensures c.in-Some.field-0 c.in-Some.is
 
 pub returns : goal.returns
 returns c = pass_done c.loop-rest.invariant c.loop-rest-test.false

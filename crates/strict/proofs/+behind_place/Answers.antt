@@ -15,7 +15,7 @@ returns-then-room-eq1 t c = let a = c.args in behind_one a.text.now _ c.group_fr
 pub returns-then-not-goes_on : goal.returns-then-not-goes_on
 returns-then-not-goes_on t c =
     let a = c.args in
-    c.larger.ensures
+    c.max.ensures
     ∙ behind_stop a.text.now _ c.group_front-n.ensures _ c.parts_place-dotted.ensures a.room (omega (arith, c.if-room-eq0.false, c.if-room-eq1.false))
     (sym c.goes_on.ensures ∙ c.if-not-goes_on.true)
 
@@ -28,7 +28,7 @@ overflow_add-n-3 t c =
 pub returns : goal.returns
 returns t c =
     let a = c.args in
-    c.larger-2.ensures
+    c.max-2.ensures
     ∙ ap (λ r. max c.parts_place-dotted.result (c.group_front-n.result + 1 + r)) c.behind_place.ensures
     ∙ behind_go a.text.now _ c.group_front-n.ensures _ c.parts_place-dotted.ensures a.room (omega (arith, c.if-room-eq0.false, c.if-room-eq1.false))
     (sym c.goes_on.ensures ∙ c.if-not-goes_on.false)

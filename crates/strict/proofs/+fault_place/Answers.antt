@@ -20,6 +20,6 @@ fault_place-requires-2 t c = (omega (arith, depth_either c.args.family c.if-fami
 pub returns : goal.returns
 returns t c =
     let a = c.args in
-    c.larger.ensures
+    c.max.ensures
     ∙ ap₂ max c.fault_place.ensures c.fault_place-2.ensures
     ∙ place_0 a.text.now a.family c.if-family-eq4.false c.if-family-eq6.false

@@ -33,6 +33,6 @@ overflow_add-gap_place c =
 
 pub returns : goal.returns
 returns c =
-    c.larger.ensures
+    c.max.ensures
     ∙ ap₂ (λ a b. max (1 + a) b) c.gap_place.ensures c.groups_place-groups.ensures
     ∙ eight_gap c.args.text.now (colon (goal.at.returns c).Else-not-has)

@@ -1,5 +1,6 @@
 -- `strict::group_front` meets its contract. Assumes nothing.
 use mathlib.Core.Path.{sym, ◌∙◌}
+use native.Mathlib.Omega.{arith}
 use borrow.Author.Rules.{rules}
 use lib.Seq.{length-take-le}
 use Rattle.strict.proofs.CodeLaws.{group_some, group_none}
@@ -10,8 +11,8 @@ slice_bounds-leading_number-end c = sym (length-take-le _ _ (search rules))
 
 pub returns-in_default : goal.returns-in_default
 returns-in_default c =
-    group_none c.args.text.now c.smaller-n.result c.smaller-n.ensures (sym c.in_default.is ∙ c.leading_number.ensures)
+    group_none c.args.text.now c.min-n.result (omega arith) (sym c.in_default.is ∙ c.leading_number.ensures)
 
 pub returns : goal.returns
 returns c =
-    group_some c.args.text.now c.smaller-n.result c.smaller-n.ensures _ _ (sym c.in-Number.is ∙ c.leading_number.ensures)
+    group_some c.args.text.now c.min-n.result (omega arith) _ _ (sym c.in-Some.is ∙ c.leading_number.ensures)

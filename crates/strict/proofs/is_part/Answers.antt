@@ -13,4 +13,4 @@ returns-in_default c =
 pub returns : goal.returns
 returns c =
     let t = c.args.text.now in
-    part_yes (part_of 255 t) _ _ (length t) (sym c.in-Number.is ∙ c.whole_part.ensures)
+    part_yes (part_of 255 t) _ _ (length t) (sym c.in-Some.is ∙ c.whole_part.ensures)

@@ -12,7 +12,7 @@ use Rattle.strict.proofs.part_front.Goals as goal
 pub loop-n-init : goal.loop-n-init
 loop-n-init c =
     let t = c.args.text.now in
-    let e : c.smaller-n.result ≡ min 3 (length t) = c.smaller-n.ensures in
+    let e : c.min-n.result ≡ min 3 (length t) = omega arith in
     (omega arith, ap (λ n. part_up_to n t) (sym e))
 
 pub slice_bounds-is_part-end : goal.slice_bounds-is_part-end

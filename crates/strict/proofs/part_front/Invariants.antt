@@ -7,6 +7,3 @@ use Rattle.strict.proofs.part_front.Given as goal
 
 abbrev pub invariant-loop-n : goal.invariant-loop-n
 invariant-loop-n l = (l.n ≤ length l.text) × (part_front l.text ≡ part_up_to l.n l.text)
-
-abbrev pub decreases-loop-n : goal.decreases-loop-n
-decreases-loop-n l = l.n

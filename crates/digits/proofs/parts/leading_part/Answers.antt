@@ -1,6 +1,6 @@
 -- `digits::parts::leading_part` meets its contract. Assumes nothing.
+use Rattle.std.specs.Prelude.{Some}
 use mathlib.Core.Path.{ap, ◌∙◌}
-use mathlib.Core.Option.{some}
 use native.Mathlib.Omega.{arith}
 use Rattle.digits.specs.Numerals.{at_most, as_leading}
 use Rattle.digits.proofs.PartLaws.{part_none, part_one, part_zero, part_four, part_more}
@@ -28,5 +28,5 @@ pub returns : goal.returns
 returns c =
     let a = c.args in
     c.at_most-2.ensures
-    ∙ ap (λ v. as_leading (at_most a.most (some v)) c.choose-count.result) c.choose-value.ensures
+    ∙ ap (λ v. as_leading (at_most a.most (Some v)) c.choose-count.result) c.choose-value.ensures
     ∙ part_more a.text.now a.most c.decimal_at-a.result c.decimal_at-a.ensures (omega arith) c.decimal_at-b.result c.decimal_at-b.ensures (omega arith) (omega arith) c.decimal_at-c.result c.decimal_at-c.ensures c.choose-count.result c.choose-count.ensures (omega (arith, c.decimal_at.ensures))

@@ -2,15 +2,15 @@ use native.Mathlib.Omega.{arith}
 use Rattle.notation.proofs.IndexLaws.{index_found, index_more, index_end}
 use Rattle.digits.proofs.read.find.Goals as goal
 
-pub returns-then-text-i : goal.returns-then-text-i
-returns-then-text-i c =
+pub returns-then-byte-separator : goal.returns-then-byte-separator
+returns-then-byte-separator c =
     let a = c.args in
-    omega (arith, index_found a.separator a.text.now c.loop-i.i (omega arith) c.if-text-i.true)
+    omega (arith, index_found a.separator a.text.now c.loop-i.i (omega arith) c.if-byte-separator.true)
 
 pub loop-i-preserved : goal.loop-i-preserved
 loop-i-preserved c =
     let a = c.args in
-    omega (arith, index_more a.separator a.text.now c.loop-i.i (omega arith) c.if-text-i.false)
+    omega (arith, index_more a.separator a.text.now c.loop-i.i (omega arith) c.if-byte-separator.false)
 
 pub returns : goal.returns
 returns c =

@@ -1,4 +1,8 @@
-use mathlib.Core.Path.{◌∙◌}
+use mathlib.Core.Path.{◌≡◌, ap, ◌∙◌}
+use mathlib.Core.Bool.{cond}
+use Rattle.std.specs.Prelude.{Some, None}
+use lib.Dec.{ltb}
+use lib.ListN.{length}
 use Prim.Native.Nat.{◌+◌}
 use native.Mathlib.Omega.{arith}
 use borrow.Author.Rules.{rules}
@@ -36,5 +40,6 @@ loop-i-preserved c =
 pub returns : goal.returns
 returns c =
     let a = c.args in
-    c.some_digits-2.ensures
+    let end : length a.text.now ≡ c.loop-i.i = omega arith in
+    c.some_digits-2.ensures ∙ ap (λ n. cond (ltb 0 n) (Some (c.loop-i.value, n)) None) end
     ∙ number_stop a.base a.text.now a.most c.loop-i.value c.loop-i.i c.loop-i.invariant.0 (omega arith) (stop_end a.base a.text.now c.loop-i.i (omega arith))

@@ -1,5 +1,4 @@
-use Prim.Native.Nat.{◌-◌, ◌≤◌}
-use lib.ListN.{length}
+use Prim.Native.Nat.{◌≤◌}
 use Rattle.digits.proofs.LeadingLaws.{Scan}
 use Rattle.digits.proofs.read.leading_number.Given as goal
 
@@ -7,6 +6,3 @@ use Rattle.digits.proofs.read.leading_number.Given as goal
 
 abbrev pub invariant-loop-i : goal.invariant-loop-i
 invariant-loop-i l = Scan l.base l.text l.value l.i × (l.value ≤ l.most)
-
-abbrev pub decreases-loop-i : goal.decreases-loop-i
-decreases-loop-i l = length l.text - l.i

@@ -1,37 +1,37 @@
 -- `network::given::hex_bytes` meets its contract. Assumes nothing.
+use Rattle.std.specs.Prelude.{Some}
 use mathlib.Core.Path.{◌≡◌, sym, ◌∙◌}
 use mathlib.Core.Bool.{true, ◌||◌}
 use native.Mathlib.Omega.{arith}
 use lib.Dec.{leb, eqb}
 use lib.ListN.{length, get_or}
-use Rattle.digits.specs.declared.read.Leading.TheVariants.{Number}
 use Rattle.digits.specs.Numerals.{bounded_number, leading}
 use Rattle.network.proofs.GivenLaws.{hex_nothing, hex_short, hex_any, hex_long, hex_number_lem}
-use Rattle.network.proofs.given.hex_bytes.Goals.{Else-not-ends_at, In-Number}
+use Rattle.network.proofs.given.hex_bytes.Goals.{Else-not-ends_at, In_ok-value}
 use Rattle.network.proofs.given.hex_bytes.Goals as goal
 
-pub returns-in_default : goal.returns-in_default
-returns-in_default c = hex_nothing _ (sym c.in_default.is ∙ c.leading_number.ensures)
+pub returns-in_err-value : goal.returns-in_err-value
+returns-in_err-value c = rw c.from_residual.ensures (hex_nothing _ c.in_err-value.ensures)
 
 -- the digits that the text begins with
-said : (c : In-Number)
-    → Number c.in-Number.value c.in-Number.digits ≡ leading 16 (bounded_number 16 4294967295) c.args.text.now
-said c = sym c.in-Number.is ∙ c.leading_number.ensures
+said : (c : In_ok-value)
+    → Some (c.in_ok-value.value, c.in_ok-value.digits) ≡ leading 16 (bounded_number 16 4294967295) c.args.text.now
+said c = c.in_ok-value.ensures
 
 pub returns-then-not-ends_at : goal.returns-then-not-ends_at
-returns-then-not-ends_at c = hex_short _ _ _ (said (goal.at.returns-then-not-ends_at c).In-Number) (sym c.ends_at.ensures ∙ c.if-not-ends_at.true)
+returns-then-not-ends_at c = hex_short _ _ _ (said (goal.at.returns-then-not-ends_at c).In_ok-value) (sym c.ends_at.ensures ∙ c.if-not-ends_at.true)
 
 -- they end where the text or the piece before the slash ends
 ends : (c : Else-not-ends_at) → let t = c.args.text.now in
-    let n = c.in-Number.digits in
+    let n = c.in_ok-value.digits in
     ((leb (length t) n || eqb (get_or t n 0) 47) ≡ true)
 ends c = sym c.ends_at.ensures ∙ c.if-not-ends_at.false
 
 pub returns-then-digits-gt8 : goal.returns-then-digits-gt8
-returns-then-digits-gt8 c = hex_long _ _ _ (said (goal.at.returns-then-digits-gt8 c).In-Number) (ends (goal.at.returns-then-digits-gt8 c).Else-not-ends_at) (omega arith)
+returns-then-digits-gt8 c = hex_long _ _ _ (said (goal.at.returns-then-digits-gt8 c).In_ok-value) (ends (goal.at.returns-then-digits-gt8 c).Else-not-ends_at) (omega arith)
 
 pub overflow_shl-result : goal.overflow_shl-result
-overflow_shl-result c = omega (arith, hex_any _ _ _ (said (goal.at.overflow_shl-result c).In-Number) (ends (goal.at.overflow_shl-result c).Else-not-ends_at))
+overflow_shl-result c = omega (arith, hex_any _ _ _ (said (goal.at.overflow_shl-result c).In_ok-value) (ends (goal.at.overflow_shl-result c).Else-not-ends_at))
 
 pub returns : goal.returns
-returns c = hex_number_lem _ _ _ (said (goal.at.returns c).In-Number) (ends (goal.at.returns c).Else-not-ends_at) (omega arith)
+returns c = hex_number_lem _ _ _ (said (goal.at.returns c).In_ok-value) (ends (goal.at.returns c).Else-not-ends_at) (omega arith)

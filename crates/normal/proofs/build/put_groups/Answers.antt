@@ -1,35 +1,18 @@
--- `normal::build::put_groups` meets its contract. The loop's invariant: where the groups before `i₀` had been put into a buffer, those before `i` now are. Assumes nothing.
-use mathlib.Core.Path.{◌≡◌}
 use native.Mathlib.Omega.{arith}
-use borrow.Author.Rules.{rules}
-use lib.ListN.{length}
-use Rattle.output.proofs.PlacingLaws.{puts_none, puts_then, puts_length}
-use Rattle.normal.proofs.GroupsTextLaws.{no_group, first_group, next_group}
+use Rattle.output.proofs.PlacingLaws.{puts_none, puts_then}
+use Rattle.normal.proofs.GroupsTextLaws.{no_group, first_group, next_group, all_groups}
 use Rattle.normal.proofs.build.put_groups.Goals as goal
 
-pub returns-then-to-from : goal.returns-then-to-from
-returns-then-to-from c = rw (no_group _ _ _ c.if-to-from.true) (puts_none _ _)
+pub returns-in_default : goal.returns-in_default
+returns-in_default c = rw (no_group _ c.in_default.len_below) (puts_none _ _)
 
-pub loop-i-init : goal.loop-i-init
-loop-i-init c = (search rules, search rules, λ old p. p)
+pub loop-group-init : goal.loop-group-init
+loop-group-init c = rw (← first_group c.args.groups.now c.in-len1-up.len_at_least) c.put_hex-next.ensures
 
-pub loop-i-preserved : goal.loop-i-preserved
-loop-i-preserved c =
-    let gs = c.args.groups in
-    let l : length gs ≡ 8 = search rules in (
-      search rules,
-      search rules,
-      λ old p. rw (← next_group gs c.args.from c.loop-i.i c.loop-i.invariant.0 (omega arith))
-          (puts_then (c.loop-i.invariant.2 old p) (puts_then c.put-next.ensures c.put_hex-next-in-loop-i.ensures)),
-    )
+pub loop-group-preserved : goal.loop-group-preserved
+loop-group-preserved c =
+    rw (← next_group c.args.groups.now c.loop-group.group-index c.in-len1-up.len_at_least c.loop-group-test.true)
+    (puts_then c.loop-group.invariant (puts_then c.put-next.ensures c.put_hex-next-in-loop-group.ensures))
 
 pub returns : goal.returns
-returns c =
-    let gs = c.args.groups in
-    let l : length gs ≡ 8 = search rules in
-    let one = rw (first_group gs c.args.from (omega arith)) at c.put_hex-next.ensures in
-    let e : c.loop-i.i ≡ c.args.to = omega arith in
-    rw e at (c.loop-i.invariant.2 _ one)
-
-pub shape_of-text : goal.shape_of-text
-shape_of-text c = puts_length (returns c)
+returns c = rw (all_groups c.args.groups.now c.loop-group.group-index c.in-len1-up.len_at_least (omega arith)) at c.loop-group.invariant

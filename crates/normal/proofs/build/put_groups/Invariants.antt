@@ -1,12 +1,9 @@
-use mathlib.Core.List.{List}
-use Prim.Native.Nat.{ℕ, ◌-◌, ◌≤◌, ◌<◌}
-use lib.Seq.{slice}
+-- `normal::build::put_groups` meets its contract. The loop's invariant: the first group and those so far are put. Assumes nothing.
+use Prim.Native.Nat.{suc}
+use lib.ListN.{take}
 use Rattle.output.specs.Placing.{Puts}
 use Rattle.normal.specs.Normal.{groups_text}
 use Rattle.normal.proofs.build.put_groups.Given as goal
 
-abbrev pub invariant-loop-i : goal.invariant-loop-i
-invariant-loop-i l = (l.from < l.i) × (l.i ≤ l.to) × ((old : List ℕ) → Puts old l.initial.text l.at l.initial.next (groups_text (slice l.from l.initial.i l.groups)) → Puts old l.text l.at l.next (groups_text (slice l.from l.i l.groups)))
-
-abbrev pub decreases-loop-i : goal.decreases-loop-i
-decreases-loop-i l = l.to - l.i
+abbrev pub invariant-loop-group : goal.invariant-loop-group
+invariant-loop-group l = Puts l.fn.text l.text l.at l.next (groups_text (take (suc l.group-index) l.groups))

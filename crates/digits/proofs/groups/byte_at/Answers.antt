@@ -1,7 +1,0 @@
--- `digits::groups::byte_at` meets its contract. Assumes nothing.
-use mathlib.Core.Path.{sym}
-use lib.ListN.{get_or-eq_default}
-use Rattle.digits.proofs.groups.byte_at.Goals as goal
-
-pub returns-then-text-at : goal.returns-then-text-at
-returns-then-text-at c = sym (get_or-eq_default c.args.text.now 0 c.if-text-at.true)

@@ -1,2 +1,0 @@
--- RunLaws: how a turn follows from its parts.
-pub mod RunLaws
