@@ -21,7 +21,7 @@ use Rattle.address.specs.declared.Address.TheVariants.{V4, V6}
 use Rattle.address.specs.declared.Block.{Block}
 use Rattle.address.specs.declared.Refusal.{Refusal}
 use Rattle.address.specs.declared.Refusal.TheVariants.{TextTooLong, Malformed, NoRoom, LengthTooLarge, BitsBeyondLength, NoClass, HostTooLarge, FirstAboveLast, WrongFamily, TooMany}
-use Rattle.address.specs.Answers.{Answer, result_answer, refusal_number, RefusalOf, first_of, holds, refusal, precedence, gives, refuses, no_address, no_block, reading_answer, writing_answer, block_answer, write_refusal, write_answer, write_leaves}
+use Rattle.address.specs.Answers.{Answer, Cases, given, not_given, result_answer, refusal_number, RefusalOf, first_of, holds, refusal, precedence, gives, refuses, no_address, no_block, reading_answer, writing_answer, block_answer, write_refusal, write_answer, write_leaves}
 use Rattle.address.specs.Addresses.{IsAddress, family, width, number, address_order, same_address}
 use Rattle.address.specs.Blocks.{numbered, too_long, bits_beyond, block_refusal, same_block}
 use Rattle.address.specs.contracts.AddressPartialEq.TheImpl as equality
@@ -166,21 +166,31 @@ module _ {A : Type 0} where
   refuses_one : {zeros : A} (e f : Refusal) → refuses zeros e ≡ refuses zeros f → e ≡ f
   refuses_one e f h = one_number e f (ap (λ (r : Answer A). r.number) h)
 
-  -- Two answers of the code that say the same are the same.
-  pub one_answer : (zeros : A) (r s : Result A Refusal) → result_answer zeros r ≡ result_answer zeros s → r ≡ s
-  one_answer zeros (Ok a) (Ok b) h = ap Ok (gives_one h)
-  one_answer zeros (Ok a) (Err f) h = absurd (gives_refuses f h)
-  one_answer zeros (Err e) (Ok b) h = absurd (gives_refuses e (sym h))
-  one_answer zeros (Err e) (Err f) h = ap Err (refuses_one e f h)
+  module _ {R : Type 0} (value : A → R) (refused : Refusal → R) (zeros : A) (says : R → Answer A)
+      (value_says : (a : A) → says (value a) ≡ gives a) (refused_says : (e : Refusal) → says (refused e) ≡ refuses zeros e) where
+    -- Two answers of the code that say the same are the same, whatever type holds them.
+    pub one_answer : (r s : R) → Cases value refused r → Cases value refused s → says r ≡ says s → r ≡ s
+    one_answer _ _ (given a) (given b) h = ap value (gives_one (sym (value_says a) ∙ h ∙ value_says b))
+    one_answer _ _ (given a) (not_given f) h = absurd (gives_refuses f (sym (value_says a) ∙ h ∙ refused_says f))
+    one_answer _ _ (not_given e) (given b) h = absurd (gives_refuses e (sym (value_says b) ∙ sym h ∙ refused_says e))
+    one_answer _ _ (not_given e) (not_given f) h = ap refused (refuses_one e f (sym (refused_says e) ∙ h ∙ refused_says f))
+
+  result_cases : (r : Result A Refusal) → Cases Ok Err r
+  result_cases (Ok a) = given a
+  result_cases (Err e) = not_given e
+
+  -- So it is of the results that the calls return.
+  pub one_result : (zeros : A) (r s : Result A Refusal) → result_answer zeros r ≡ result_answer zeros s → r ≡ s
+  one_result zeros r s = one_answer Ok Err zeros (result_answer zeros) (λ a. refl) (λ e. refl) r s (result_cases r) (result_cases s)
 
 pub one_reading : (r s : Result Address Refusal) → reading_answer r ≡ reading_answer s → r ≡ s
-one_reading = one_answer no_address
+one_reading = one_result no_address
 
 pub one_writing : (r s : Result ℕ Refusal) → writing_answer r ≡ writing_answer s → r ≡ s
-one_writing = one_answer 0
+one_writing = one_result 0
 
 pub one_block_reading : (r s : Result Block Refusal) → block_answer r ≡ block_answer s → r ≡ s
-one_block_reading = one_answer no_block
+one_block_reading = one_result no_block
 
 -- ---- equality
 

@@ -76,6 +76,11 @@ no_block = record { address = no_address; length = 0 }
 
 -- ---- each answer of the code in the paper's terms
 
+-- the two cases of a type that has a value or a refusal
+pub data Cases {A R : Type 0} (value : A → R) (refused : Refusal → R) : R → Type 0 where
+  given : (a : A) → Cases value refused (value a)
+  not_given : (e : Refusal) → Cases value refused (refused e)
+
 -- a value, or a refusal with these fields
 abbrev pub result_answer : {A : Type 0} → A → Result A Refusal → Answer A
 result_answer zeros (Ok a) = gives a

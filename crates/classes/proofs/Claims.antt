@@ -11,7 +11,7 @@ use Rattle.address.specs.declared.Address.TheVariants.{V4, V6}
 use Rattle.address.specs.declared.Refusal.TheVariants.{NoClass}
 use Rattle.address.specs.Addresses.{IsAddress, family, number}
 use Rattle.address.specs.Answers.{Answer, gives, refuses}
-use Rattle.address.proofs.Claims.{one_answer}
+use Rattle.address.proofs.Claims.{one_result}
 use Rattle.classes.specs.Classes.{Class, class_a, class_b, class_c, class_of, network_class, hosts, split_answer, splitting_answer, join_answer}
 use Rattle.classes.specs.ClassTable.{SplitCall, bits_111, Row, JoinCall}
 use Rattle.classes.proofs.ClassLaws.{class_a_lem, class_b_lem, class_c_lem, split_class}
@@ -97,4 +97,4 @@ join_number = table.join_number
 
 -- A promise about the paper's answer fixes the code's answer.
 pub one_splitting : (r s : Result (ℕ × ℕ) Refusal) → splitting_answer r ≡ splitting_answer s → r ≡ s
-one_splitting = one_answer (0, 0)
+one_splitting = one_result (0, 0)

@@ -15,7 +15,7 @@ use Rattle.address.specs.declared.Address.TheVariants.{V4}
 use Rattle.address.specs.Addresses.{number}
 use Rattle.address.specs.Answers.{gives, write_answer, write_leaves}
 use Rattle.address.proofs.AnswerLaws.{read_held, good_no_reason}
-use Rattle.address.proofs.Claims.{one_answer}
+use Rattle.address.proofs.Claims.{one_result}
 use Rattle.octets.specs.Octets.{octets}
 use Rattle.digits.specs.Numerals.{numeral}
 use Rattle.network.specs.GivenBytes.{zero_filled}
@@ -83,4 +83,4 @@ written_read_back a size old n e buf room =
 
 -- A promise about the paper's answer fixes the code's answer.
 pub one_network_reading : (r s : Result (ℕ × ℕ) Refusal) → network_reading_answer r ≡ network_reading_answer s → r ≡ s
-one_network_reading = one_answer (0, 0)
+one_network_reading = one_result (0, 0)

@@ -11,7 +11,7 @@ use Rattle.cover.specs.Blocks.{Block, AllBlocks, Rising}
 use Rattle.address.specs.declared.Refusal.{Refusal}
 use Rattle.address.specs.declared.Refusal.TheVariants.{LengthTooLarge, BitsBeyondLength}
 use Rattle.address.specs.Answers.{Answer, gives}
-use Rattle.address.proofs.Claims.{one_answer}
+use Rattle.address.proofs.Claims.{one_result}
 use Rattle.records.specs.Records.{record_size, records_of, read_records}
 use Rattle.record_lists.specs.RecordLists.{is_family, family_width, record_count, list_blocks, is_rising, list_refusal, list_answer, list_reading_answer}
 use Rattle.record_lists.specs.ListForm.{Family, Records, Breaks, FirstBad, ListCall}
@@ -29,7 +29,7 @@ list_exactly f bytes small r = (λ e. subst (ListCall f bytes) e (form.answers_c
 
 -- A promise about the paper's answer fixes the code's answer.
 pub one_list_reading : (r s : Result (ℕ × Bool) Refusal) → list_reading_answer r ≡ list_reading_answer s → r ≡ s
-one_list_reading = one_answer (0, false)
+one_list_reading = one_result (0, false)
 
 -- ---- families
 
