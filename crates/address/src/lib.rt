@@ -16,21 +16,21 @@ use std::cmp::Ordering;
 use wide::Wide;
 
 // The halves of an IPv6 address are its first and its last 64 bits.
-#[derive(Clone, Copy, Debug, PartialEq, Eq)]
+#[derive(Clone, Copy, PartialEq, Eq)]
 pub enum Address {
     V4(u32),
     V6(u64, u64),
 }
 
 // A prefix: the addresses whose first `length` bits are those of `address`. Any value may be made; `check` tells a good one.
-#[derive(Clone, Copy, Debug, PartialEq, Eq)]
+#[derive(Clone, Copy, PartialEq, Eq)]
 pub struct Block {
     pub address: Address,
     pub length: u8,
 }
 
 // Why a call says no, in the order of the numbers 1 to 10.
-#[derive(Clone, Copy, Debug, PartialEq, Eq)]
+#[derive(Clone, Copy, PartialEq, Eq)]
 pub enum Refusal {
     TextTooLong,
     Malformed,
