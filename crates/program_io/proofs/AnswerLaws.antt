@@ -1,12 +1,12 @@
 -- The answers of the system as the programs take them, each case exactly. Assumes nothing.
-use Rattle.std.specs.Prelude.{Result, Ok, Err, Some, None}
+use Rattle.std.specs.Prelude.{Result, Ok, Err, Some, None, pos}
 use Rattle.std.specs.Io.{ReadsAtMost}
-use Rattle.std.specs.IoError.{error_kind}
+use Rattle.std.specs.IoError.{error_kind, raw_os_error}
 use Rattle.std.specs.declared.io.Error.{Error}
 use Rattle.std.specs.declared.io.ErrorKind.{ErrorKind}
 use Rattle.std.specs.declared.io.ErrorKind.TheVariants.{Interrupted}
 use mathlib.Core.Path.{◌≡◌, refl, sym, ap, subst, ◌∙◌}
-use mathlib.Core.Logic.{◌↔◌}
+use mathlib.Core.Logic.{◌⊎◌, inl, inr, ◌↔◌}
 use mathlib.Core.Bool.{Bool, true, false, cond, not, false≢true, true≢false}
 use mathlib.Core.List.{List, [], ◌∷◌}
 use Prim.Native.Nat.{ℕ, ◌+◌, ◌-◌, ◌≤◌}
@@ -18,12 +18,15 @@ use Rattle.notation.specs.Ascii.{ascii, within}
 use Rattle.notation.proofs.AsciiLaws.{within_exactly}
 use Rattle.program_io.specs.declared.Got.{Got}
 use Rattle.program_io.specs.declared.Got.TheVariants.{Bytes, Again, Failed}
-use Rattle.program_io.specs.Calls.{is_interruption, is_interrupted, brought_of, bytes_of, is_stuck, Filled, is_dash, single_digit, trouble_text}
+use Rattle.program_io.specs.Calls.{is_interruption, is_interrupted, brought_of, bytes_of, is_stuck, FailedBy, Filled, is_dash, single_digit, trouble_text}
 
 -- ---- what a read has brought
 
 abbrev err : Error → Result ℕ Error
 err why = Err why
+
+abbrev ok : ℕ → Result ℕ Error
+ok n = Ok n
 
 interruption : (k : ErrorKind) → is_interruption k ≡ true → k ≡ Interrupted
 interruption Interrupted e = refl
@@ -98,6 +101,28 @@ goes_on_exactly (Err why) = (λ e z. (why, refl, interruption _ (flipped (is_int
 
     cause : (h : (e : Error) × (err why ≡ err e) × (error_kind e ≡ Interrupted)) → why ≡ h.0
     cause h = let e = h.1 in cc
+
+pub stops_exactly : (a : Result ℕ Error) (why : Error) → ((is_stuck a ≡ true) × FailedBy a why) ↔ (((a ≡ Ok 0) × (raw_os_error why ≡ Some (pos 0))) ⊎ ((a ≡ Err why) × (error_kind why ≡ Interrupted → ⊥)))
+stops_exactly (Ok n) why = (λ h. inl (ap ok (eqb-true n 0 h.0), h.1), from)
+  where
+    from : (((ok n) ≡ Ok 0) × (raw_os_error why ≡ Some (pos 0))) ⊎ ((ok n ≡ Err why) × (error_kind why ≡ Interrupted → ⊥)) → (eqb n 0 ≡ true) × (raw_os_error why ≡ Some (pos 0))
+    from (inl h) = (ap is_stuck h.0, h.1)
+    from (inr h) = let e = h.0 in cc
+stops_exactly (Err e) why = (λ h. inr (ap err (sym h.1), no_interruption _ (flipped (is_interrupted why) (ap (λ e. not (is_interrupted e)) h.1 ∙ h.0))), from)
+  where
+    flipped : (b : Bool) → not b ≡ true → b ≡ false
+    flipped true q = sym q
+    flipped false q = refl
+
+    fails : (b : Bool) → is_interrupted why ≡ b → (error_kind why ≡ Interrupted → ⊥) → not b ≡ true
+    fails true q n = absurd (n (interruption _ q))
+    fails false q n = refl
+
+    from : ((err e ≡ Ok 0) × (raw_os_error why ≡ Some (pos 0))) ⊎ ((err e ≡ Err why) × (error_kind why ≡ Interrupted → ⊥)) → (not (is_interrupted e) ≡ true) × (why ≡ e)
+    from (inl h) = let e = h.0 in cc
+    from (inr h) =
+        let same : why ≡ e = let q = h.0 in cc in
+        (ap (λ e. not (is_interrupted e)) (sym same) ∙ fails (is_interrupted why) refl h.1, same)
 
 -- ---- the arguments
 

@@ -1,16 +1,16 @@
 -- What is claimed of the answers of the system, as the programs take them. Assumes nothing.
-use Rattle.std.specs.Prelude.{Result, Ok, Err, Some}
-use Rattle.std.specs.IoError.{error_kind}
+use Rattle.std.specs.Prelude.{Result, Ok, Err, Some, pos}
+use Rattle.std.specs.IoError.{error_kind, raw_os_error}
 use Rattle.std.specs.declared.io.Error.{Error}
 use Rattle.std.specs.declared.io.ErrorKind.TheVariants.{Interrupted}
 use mathlib.Core.Path.{◌≡◌}
-use mathlib.Core.Logic.{◌↔◌}
+use mathlib.Core.Logic.{◌⊎◌, ◌↔◌}
 use mathlib.Core.Bool.{true, false}
 use mathlib.Core.List.{List, [], ◌∷◌}
 use Prim.Native.Nat.{ℕ, ◌+◌, ◌≤◌}
 use Rattle.notation.specs.Ascii.{ascii}
 use Rattle.program_io.specs.declared.Got.TheVariants.{Bytes, Again, Failed}
-use Rattle.program_io.specs.Calls.{brought_of, bytes_of, is_stuck, is_dash, single_digit, trouble_text}
+use Rattle.program_io.specs.Calls.{brought_of, bytes_of, is_stuck, FailedBy, is_dash, single_digit, trouble_text}
 use Rattle.program_io.proofs.AnswerLaws as answers
 
 module _ (answer : Result ℕ Error) where
@@ -29,6 +29,10 @@ module _ (answer : Result ℕ Error) where
   -- A write goes on where it took a byte or was interrupted, and only there.
   pub goes_on_exactly : (is_stuck answer ≡ false) ↔ (bytes_of answer ≡ 0 → (why : Error) × (answer ≡ Err why) × (error_kind why ≡ Interrupted))
   goes_on_exactly = answers.goes_on_exactly answer
+
+  -- It stops where it took no byte, which is told as no failure, or failed and was not interrupted, which is told as the system says.
+  pub stops_exactly : (why : Error) → ((is_stuck answer ≡ true) × FailedBy answer why) ↔ (((answer ≡ Ok 0) × (raw_os_error why ≡ Some (pos 0))) ⊎ ((answer ≡ Err why) × (error_kind why ≡ Interrupted → ⊥)))
+  stops_exactly = answers.stops_exactly answer
 
 -- Only `-` stands for standard input,
 pub dash_exactly : (path : List ℕ) → (is_dash path ≡ true) ↔ (path ≡ ascii "-")

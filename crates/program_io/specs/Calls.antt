@@ -1,6 +1,6 @@
 -- What the programs make of the answers of the system. Assumes nothing.
-use Rattle.std.specs.Prelude.{◌≡◌, Bool, true, false, cond, not, List, [], ◌∷◌, ◌++◌, ℕ, ◌+◌, ◌-◌, ◌%◌, ◌≤◌, eqb, Result, Ok, Err, Some, None, Option}
-use Rattle.std.specs.IoError.{error_kind}
+use Rattle.std.specs.Prelude.{◌≡◌, Bool, true, false, cond, not, List, [], ◌∷◌, ◌++◌, ℕ, ◌+◌, ◌-◌, ◌%◌, ◌≤◌, eqb, pos, Result, Ok, Err, Some, None, Option}
+use Rattle.std.specs.IoError.{error_kind, raw_os_error}
 use Rattle.std.specs.declared.io.Error.{Error}
 use Rattle.std.specs.declared.io.ErrorKind.{ErrorKind}
 use Rattle.std.specs.declared.io.ErrorKind.TheVariants.{Interrupted}
@@ -34,6 +34,11 @@ bytes_of (Err why) = 0
 abbrev pub is_stuck : Result ℕ Error → Bool
 is_stuck (Ok n) = eqb n 0
 is_stuck (Err why) = not (is_interrupted why)
+
+-- Why a write that was answered so has failed: as the system says, which names no failure of one that took no byte.
+abbrev pub FailedBy : Result ℕ Error → Error → Type 0
+FailedBy (Ok n) why = raw_os_error why ≡ Some (pos 0)
+FailedBy (Err e) why = why ≡ e
 
 -- no more bytes than there was room for
 abbrev pub Filled : ℕ → Got → Type 0

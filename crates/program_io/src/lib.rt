@@ -1,10 +1,10 @@
 // What both programs do with the system: what a read has brought, what is written and told, the inputs that are opened, and the status.
 #![tactic(auto)]
 
-ghost use Rattle.std.specs.Prelude.{◌≡◌, ◌+◌, ◌≤◌, true, Some, pos, IfOk, IfSome, length, is_err, take};
+ghost use Rattle.std.specs.Prelude.{◌≡◌, ◌+◌, ◌≤◌, true, Some, pos, IfOk, IfErr, IfSome, length, is_err, take};
 ghost use Rattle.std.specs.IoError.{raw_os_error};
 ghost use Rattle.output.specs.Placing.{Puts};
-ghost use Rattle.program_io.specs.Calls.{is_interrupted, brought_of, bytes_of, is_stuck, trouble_text, PutsReason, is_dash, single_digit, status_text, IsFile, NamesStandard};
+ghost use Rattle.program_io.specs.Calls.{is_interrupted, brought_of, bytes_of, is_stuck, FailedBy, trouble_text, PutsReason, is_dash, single_digit, status_text, IsFile, NamesStandard};
 
 use output::put_bytes;
 use std::env::{Env, FillError};
@@ -81,6 +81,7 @@ pub fn brought(answer: Result<usize>) -> Got
 fn taken(answer: Result<usize>) -> Result<usize>
     ensures bytes { IfOk result (λ n. n ≡ bytes_of answer) }
     ensures stuck { is_err result ≡ is_stuck answer }
+    ensures why { IfErr result (FailedBy answer) }
 {
     match answer {
         Ok(0) => Err(no_error()),
@@ -93,7 +94,8 @@ fn taken(answer: Result<usize>) -> Result<usize>
 // Writes a text. Each byte was taken by a call, or is left: none is, unless a call failed. Nothing says that the calls take bytes, so they are
 // counted, up to a number that no run reaches.
 fn write_text<W: Write>(to: &mut W, text: &[u8]) -> Sent
-    ensures { result.moved + result.left ≡ length text.now }
+    ensures all { result.moved + result.left ≡ length text.now }
+    ensures why { result.left ≡ 0 → raw_os_error result.why ≡ Some (pos 0) }
 {
     let mut rest = text;
     let mut moved = 0;
