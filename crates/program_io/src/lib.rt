@@ -156,11 +156,30 @@ fn put_reason(line: &mut [u8], at: usize, why: Error) -> usize
 
 // What is written of a status, at the start: its digit, and a `p`, as in pipe, where nobody reads what the program writes any more.
 fn status_text(status: u8, broken: bool) -> ([u8; 2], usize)
-    ensures in_bounds { result.1 ≤ 2 }
+    ensures in_bounds { (1 ≤ result.1) × (result.1 ≤ 2) }
     ensures value { take result.1 result.0 ≡ status_text status broken }
 {
     let len = if broken { 2 } else { 1 };
     ([b'0' + status % 10, b'p'], len)
+}
+
+// Writes the status: the `p` by a call of its own, and also where the digit could not be written.
+fn write_digit<W: Write>(to: &mut W, status: u8, broken: bool) -> Sent
+    ensures { result.moved + result.left ≡ length (status_text status broken) }
+{
+    let (text, len) = status_text(status, broken);
+    let text = &text[..len];
+    let digit = write_text(to, &text[..1]);
+    let behind = write_text(to, &text[1..]);
+    Sent {
+        moved: digit.moved + behind.moved,
+        left: digit.left + behind.left,
+        why: if 0 < behind.left {
+            behind.why
+        } else {
+            digit.why
+        },
+    }
 }
 
 // Whether a path is `-`, which stands for standard input.
@@ -318,12 +337,11 @@ impl Streams {
         let mut argument = [0u8; 2];
         let n = rt.arg(1, &mut argument).unwrap_or(0);
         let fd = single_digit(&argument[..n])?;
-        let (text, len) = status_text(status, self.broken);
-        let text = &text[..len];
+        let broken = self.broken;
         Some(match fd {
-            1 => write_text(&mut self.output, text),
-            2 => write_text(&mut self.error, text),
-            _ => write_text(&mut open_descriptor(rt, fd).ok()?, text),
+            1 => write_digit(&mut self.output, status, broken),
+            2 => write_digit(&mut self.error, status, broken),
+            _ => write_digit(&mut open_descriptor(rt, fd).ok()?, status, broken),
         })
     }
 }
