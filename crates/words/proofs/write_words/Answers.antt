@@ -1,8 +1,8 @@
 -- `words::write_words` meets its contract. Assumes nothing.
 use Rattle.std.proofs.Common.{◌≡◌, sym, rules, ◌∙◌}
 use Rattle.address.specs.declared.Refusal.TheVariants.{Malformed}
-use Rattle.address.specs.Answers.{refusal_number, refuses, writing_answer}
-use Rattle.words.proofs.WordsLaws.{words_stored, words_refused, no_words}
+use Rattle.address.specs.Answers.{refuses, writing_answer}
+use Rattle.words.proofs.WordsLaws.{words_refused, no_words}
 use Rattle.words.proofs.write_words.Goals as goal
 
 pub returns-in_err-refusal : goal.returns-in_err-refusal
@@ -12,4 +12,4 @@ returns-in_err-refusal c =
     (e ∙ none.0, none.1)
 
 pub returns : goal.returns
-returns c = words_stored _ _ (refusal_number c.in_ok-refusal.refusal) _ (sym c.in_ok-refusal.ensures.2) (sym c.words_of.ensures) c.store.ensures
+returns c = rw (sym c.in_ok-refusal.ensures.2) c.store_words.ensures
