@@ -10,7 +10,7 @@ ghost use Rattle.wide.specs.Value.{value};
 // The largest half.
 const MOST: u64 = 0xffff_ffff_ffff_ffff;
 
-#[derive(Clone, Copy, Debug, PartialEq, Eq, PartialOrd, Ord)]
+#[derive(Clone, Copy, PartialEq, Eq, PartialOrd, Ord)]
 pub struct Wide {
     pub hi: u64,
     pub lo: u64,
