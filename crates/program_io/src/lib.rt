@@ -10,7 +10,7 @@ use output::put_bytes;
 use std::env::{Env, FillError};
 use std::fs;
 use std::fs::{File, OpenOptions};
-use std::io::{Error, ErrorKind, Read, Result, Stderr, Stdin, Stdout, Write};
+use std::io::{Error, ErrorKind, Result, Stderr, Stdin, Stdout, Write};
 
 // The errors of the system for an argument that is longer than a path may be, a path that is not text, and a descriptor that is not open for
 // writing.
@@ -223,15 +223,6 @@ fn open_descriptor<R: fs::Files>(rt: &R, fd: u8) -> Result<R::File> {
 pub enum Input<F> {
     Standard(Stdin),
     File(F),
-}
-
-impl<F: Read> Read for Input<F> {
-    fn read(&mut self, buf: &mut [u8]) -> Result<usize> {
-        match self {
-            Input::Standard(input) => input.read(buf),
-            Input::File(file) => file.read(buf),
-        }
-    }
 }
 
 // Opens a file for reading.

@@ -9,7 +9,7 @@ ghost use Rattle.std.specs.Prelude.{◌≡◌, false, cond, ◌||◌, ◌+◌, �
 ghost use Rattle.program_io.specs.Calls.{Filled};
 ghost use Rattle.range_main.specs.Runs.{Within, OrUnwritten, AnswersPiece, AnswersEnd, AfterRead, Turns, end_of, is_more, Finished, status_of, stops_at};
 
-use program_io::{Got, Streams, brought, no_error};
+use program_io::{Got, Input, Streams, brought, no_error};
 use range_lines::{Fed, Reader, feed, finish, is_begun, start};
 use std::env::{Env, FillError};
 use std::fs::Files;
@@ -284,7 +284,8 @@ impl Answerer {
         let mut name = [0u8; 4096];
         let (n, input) = self.streams.open(rt, i, &mut name);
         match input {
-            Some(mut input) => self.answer_input(&mut input, &name[..n]),
+            Some(Input::Standard(mut input)) => self.answer_input(&mut input, &name[..n]),
+            Some(Input::File(mut file)) => self.answer_input(&mut file, &name[..n]),
             None => Verdict {
                 status: 2,
                 stop: self.streams.broken,

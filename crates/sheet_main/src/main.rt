@@ -12,7 +12,7 @@ ghost use Rattle.program_io.specs.Calls.{Filled};
 ghost use Rattle.sheet_main.specs.Runs.{reached, after_read, Turns, is_more, is_whole, Reads, Replies, Answers, AnswersRun, status_of, AnswersInput};
 
 use digits::read::find;
-use program_io::{Got, Streams, brought, no_error};
+use program_io::{Got, Input, Streams, brought, no_error};
 use sheet::respell;
 use sheet_notes::put_refused;
 use std::env::Env;
@@ -284,7 +284,8 @@ impl Answerer {
         let mut name = [0u8; 4096];
         let (n, input) = self.streams.open(rt, i, &mut name);
         match input {
-            Some(mut input) => self.answer_input(&mut input, &name[..n]),
+            Some(Input::Standard(mut input)) => self.answer_input(&mut input, &name[..n]),
+            Some(Input::File(mut file)) => self.answer_input(&mut file, &name[..n]),
             None => 2,
         }
     }
