@@ -9,7 +9,7 @@
  *   - a pointer and the length behind it name that many bytes, readable where the pointer is to const, writable where not.
  *     A pointer may be NULL where its length is 0;
  *   - a buffer that a call writes to overlaps nothing else that the call is lent;
- *   - stack: up to about 87 KiB for a call on a sheet, 61 KiB for one on records, and 1 KiB for any other. Short sheets
+ *   - stack: up to about 87 KiB for a call on a sheet, 52 KiB for one on records, and 1 KiB for any other. Short sheets
  *     and lists may take nearly as much: docs/LINKING.md has the figures.
  * Nothing else is asked: any bytes and any numbers may be handed in.
  *
